@@ -1,0 +1,5 @@
+pub mod Ranges
+pub mod Flags
+pub mod Records
+pub mod Slots
+pub mod Codes
