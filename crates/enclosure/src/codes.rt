@@ -2,7 +2,7 @@
 ghost use mathlib.Core.Path.{_≡_};
 ghost use Rattle.enclosure.specs.Codes.{fan-byte, fan-read, supply-byte, supply-read};
 
-#[derive(Clone, Copy, Debug, PartialEq, Eq)]
+#[derive(Clone, Copy)]
 pub enum FanCode {
     Works,
     Broken,
@@ -37,7 +37,7 @@ impl FanCode {
     }
 }
 
-#[derive(Clone, Copy, Debug, PartialEq, Eq)]
+#[derive(Clone, Copy)]
 pub enum SupplyCode {
     WorksOn,
     WorksOff,

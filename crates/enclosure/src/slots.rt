@@ -3,7 +3,7 @@ ghost use mathlib.Core.Path.{_≡_};
 ghost use Rattle.enclosure.specs.Slots.{moved, state-byte, state-read};
 
 // Whether a drive is in the slot, and whether the slot is prepared for operation.
-#[derive(Clone, Copy, Debug, PartialEq, Eq)]
+#[derive(Clone, Copy)]
 pub enum PhysicalState {
     EmptyReady,
     EmptyPrepared,
@@ -12,7 +12,7 @@ pub enum PhysicalState {
 }
 
 // What moves a slot: two operations that hosts order, and a drive that is put in or taken out.
-#[derive(Clone, Copy, Debug, PartialEq, Eq)]
+#[derive(Clone, Copy)]
 pub enum SlotEvent {
     Prepare,
     Release,

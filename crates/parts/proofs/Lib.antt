@@ -1,3 +1,1 @@
-pub mod Over
 pub mod SlotParts
-pub mod PartAt

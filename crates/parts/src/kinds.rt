@@ -115,7 +115,7 @@ pub impl Part for Slot as SlotPart {
 }
 
 // How often a drive was put into a slot: two bytes, the high one first.
-#[derive(Clone, Copy, Debug, PartialEq, Eq)]
+#[derive(Clone, Copy)]
 pub struct InsertionCount(pub u16);
 
 pub impl Part for InsertionCount as CountPart {
@@ -144,7 +144,7 @@ pub impl Part for InsertionCount as CountPart {
 }
 
 // A plain byte: a SCSI ID or a temperature.
-#[derive(Clone, Copy, Debug, PartialEq, Eq)]
+#[derive(Clone, Copy)]
 pub struct PlainByte(pub u8);
 
 pub impl Part for PlainByte as BytePart {

@@ -1,4 +1,3 @@
-// Parts of a page: kinds with a width, laid as bytes and read back, alone and in runs.
+// Parts of a page: kinds with a width, laid as bytes and read back.
 pub mod kinds;
 pub mod part;
-pub mod runs;

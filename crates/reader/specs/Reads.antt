@@ -11,7 +11,7 @@ use Rattle.std.specs.declared.result.Result.the-variants.{Ok, Err}
 use Rattle.enclosure.specs.Ranges.{in-range}
 use Rattle.enclosure.specs.declared.counts.PartCounts.{PartCounts}
 use Rattle.parts.specs.Laid.{fan-reads, supply-reads, slot-reads, count-reads, byte-reads}
-use Rattle.parts.specs.Runs.{part-bytes}
+use Rattle.part_runs.specs.Runs.{part-bytes}
 use Rattle.reader.specs.declared.fault.Fault.{Fault}
 use Rattle.reader.specs.declared.fault.Fault.the-variants.{Configuration, Short, Number, NoPart}
 use Rattle.reader.specs.declared.fault.Found.{Found}

@@ -1,7 +1,7 @@
 // What the reader is asked and what it answers.
 
 // Why no part is handed out.
-#[derive(Clone, Copy, Debug, PartialEq, Eq)]
+#[derive(Clone, Copy)]
 pub enum Fault {
     // The configuration page is too short, or one of its counts is out of range.
     Configuration,
@@ -14,7 +14,7 @@ pub enum Fault {
 }
 
 // A run of parts. Those of fans, supplies, IDs and temperatures stand in the status page, slots in the slot page, insertion counts in the insertion page.
-#[derive(Clone, Copy, Debug, PartialEq, Eq)]
+#[derive(Clone, Copy)]
 pub enum Run {
     Fans,
     Supplies,

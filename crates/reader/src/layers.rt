@@ -4,7 +4,7 @@ ghost use Prim.Native.Nat.{ℕ, _*_, _+_, _≤_};
 ghost use lib.ListN.{length};
 ghost use Rattle.std.specs.Options.{okOr};
 ghost use Rattle.std.specs.Vec.{made};
-ghost use Rattle.parts.specs.Runs.{part-bytes};
+ghost use Rattle.part_runs.specs.Runs.{part-bytes};
 ghost use Rattle.reader.specs.declared.fault.Fault.the-variants.{NoPart};
 ghost use Rattle.reader.specs.Reads.{counts-of, read-part, run-part, told};
 use crate::fault::Fault;
@@ -13,6 +13,7 @@ use crate::fault::Run;
 use enclosure::codes::FanCode;
 use enclosure::codes::SupplyCode;
 use enclosure::counts::PartCounts;
+use part_runs::part_of_run;
 use parts::kinds::BytePart;
 use parts::kinds::CountPart;
 use parts::kinds::FanPart;
@@ -22,7 +23,6 @@ use parts::kinds::Slot;
 use parts::kinds::SlotPart;
 use parts::kinds::SupplyPart;
 use parts::part::Part;
-use parts::runs::part_of_run;
 
 // The part layer: part `number` of the run that begins at `start`.
 fn part<P: Part>(page: &[u8], start: usize, number: usize) -> Result<P, Fault>
@@ -32,7 +32,12 @@ fn part<P: Part>(page: &[u8], start: usize, number: usize) -> Result<P, Fault>
 }
 
 // The page layer: where part `number` of a run of `count` parts that begins at `start` stands, and its bytes.
-fn in_run<P: Part + Drop>(page: &[u8], start: usize, count: u8, number: usize) -> Result<Found<'_>, Fault>
+fn in_run<P: Part + Drop>(
+    page: &[u8],
+    start: usize,
+    count: u8,
+    number: usize,
+) -> Result<Found<'_>, Fault>
     requires { ⌜ start ≤ 1000 ⌝ }
     ensures { λ r. ⌜ told r ≡ run-part (P·Part .width) (P·Part .reads) (now (page .entry)) start count number ⌝ }
 {
@@ -63,11 +68,20 @@ fn counts_of(config: &[u8]) -> Result<PartCounts, Fault>
         sensors: config[4],
         thermostats: config[6],
     };
-    if counts.in_range() { Ok(counts) } else { Err(Fault::Configuration) }
+    if counts.in_range() {
+        Ok(counts)
+    } else {
+        Err(Fault::Configuration)
+    }
 }
 
 // The call layer: part `number` of a run of a page, by the configuration page of the same shelf.
-pub fn read_part<'a>(config: &[u8], page: &'a [u8], run: Run, number: usize) -> Result<Found<'a>, Fault>
+pub fn read_part<'a>(
+    config: &[u8],
+    page: &'a [u8],
+    run: Run,
+    number: usize,
+) -> Result<Found<'a>, Fault>
     ensures { λ r. ⌜ told r ≡ read-part (now (config .entry)) (now (page .entry)) run number ⌝ }
 {
     let counts = counts_of(config)?;
@@ -78,7 +92,12 @@ pub fn read_part<'a>(config: &[u8], page: &'a [u8], run: Run, number: usize) -> 
         Run::Fans => in_run::<FanCode>(page, 0, counts.fans, number),
         Run::Supplies => in_run::<SupplyCode>(page, fans, counts.supplies, number),
         Run::Ids => in_run::<PlainByte>(page, fans + supplies, counts.slots, number),
-        Run::Temperatures => in_run::<PlainByte>(page, fans + supplies + slots + 2, counts.sensors, number),
+        Run::Temperatures => in_run::<PlainByte>(
+            page,
+            fans + supplies + slots + 2,
+            counts.sensors,
+            number,
+        ),
         Run::Slots => in_run::<Slot>(page, 0, counts.slots, number),
         Run::Counts => in_run::<InsertionCount>(page, 0, counts.slots, number),
         Run::Unknown => Err(Fault::Number),

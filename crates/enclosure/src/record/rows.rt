@@ -4,7 +4,7 @@ ghost use Rattle.enclosure.specs.Records.{record-of, row-of};
 use crate::record::SlotRecord;
 
 // Three bytes of a slot, whatever they are.
-#[derive(Clone, Copy, Debug, PartialEq, Eq)]
+#[derive(Clone, Copy)]
 pub struct Row {
     pub flags: u8,
     pub more: u8,

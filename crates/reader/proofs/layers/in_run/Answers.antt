@@ -1,6 +1,6 @@
 use borrow.Author.Needs.{needs}
 use lib.ListN.{length}
-use Rattle.parts.proofs.Over.{room}
+use Rattle.part_runs.proofs.Over.{room}
 use Rattle.reader.proofs.layers.in_run.Needs as need
 
 pub part-bytes-end : need.part-bytes-end

@@ -1,0 +1,4 @@
+pub mod Spelling
+pub mod Figures
+pub mod Pieces
+pub mod Printed

@@ -1,0 +1,4 @@
+pub mod Hex
+pub mod Number
+pub mod Words
+pub mod Shown
