@@ -1,4 +1,4 @@
-// Scripts: which call a line of text is, and the text of its answer.
-pub mod call;
-pub mod expected;
-pub mod fields;
+// Scripts: the text that answers each line.
+pub mod lines;
+pub mod response;
+pub mod shown;

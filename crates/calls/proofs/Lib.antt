@@ -1,1 +1,2 @@
 pub mod FirstWord
+pub mod Lines

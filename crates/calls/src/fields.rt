@@ -5,8 +5,8 @@ ghost use Rattle.std.specs.Of.Vec.{vec-items};
 ghost use Rattle.text.specs.Hex.{bytes-read};
 ghost use Rattle.text.specs.Number.{number-read};
 ghost use Rattle.text.specs.Words.{left};
-ghost use Rattle.script.specs.Fields.{Told, at-end, keyword-read, keyword-text, parsed, run-read, word-as};
-ghost use Rattle.script.specs.declared.expected.Expected.the-variants as expected;
+ghost use Rattle.calls.specs.Fields.{Told, at-end, keyword-read, keyword-text, parsed, run-read, word-as};
+ghost use Rattle.calls.specs.declared.expected.Expected.the-variants as expected;
 use crate::expected::Expected;
 use crate::expected::Fault;
 use crate::expected::Keyword;
@@ -33,7 +33,7 @@ impl Keyword {
 }
 
 // Whether a word is this text.
-fn same(word: &[u8], text: &str) -> bool
+pub fn same(word: &[u8], text: &str) -> bool
     ensures { λ r. ⌜ r ≡ sameBytes (now (word .entry)) (now (text .entry)) ⌝ }
 {
     word == text.as_bytes()

@@ -1,4 +1,6 @@
 // What a line was expected to hold, and what stands there.
+ghost use mathlib.Core.Path.{_≡_};
+ghost use Rattle.calls.specs.declared.expected.Fault.the-variants.{Memory, Unreadable as Unread};
 use std::alloc::AllocError;
 
 // The words that name calls and their fields.
@@ -41,12 +43,16 @@ pub enum Fault<'a> {
 }
 
 pub impl<'a> From<AllocError> for Fault<'a> as FaultFromAlloc {
+    ghost converts = { λ _ f. f ≡ Memory };
+
     fn from(_e: AllocError) -> Fault<'a> {
         Fault::Memory
     }
 }
 
 pub impl<'a> From<Unreadable<'a>> for Fault<'a> as FaultFromUnreadable {
+    ghost converts = { λ u f. f ≡ Unread u };
+
     fn from(u: Unreadable<'a>) -> Fault<'a> {
         Fault::Unreadable(u)
     }

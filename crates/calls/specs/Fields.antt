@@ -16,13 +16,13 @@ use Rattle.reader.specs.Numbers.{run-numbered}
 use Rattle.reader.specs.declared.fault.Run.{Run}
 use Rattle.reader.specs.declared.fault.Run.the-variants.{Fans, Supplies, Ids, Temperatures, Slots, Counts}
 use Rattle.text.specs.Number.{number-read}
-use Rattle.script.specs.declared.expected.Expected.{Expected}
-use Rattle.script.specs.declared.expected.Expected.the-variants as expected
-use Rattle.script.specs.declared.expected.Keyword.{Keyword}
-use Rattle.script.specs.declared.expected.Keyword.the-variants as word
-use Rattle.script.specs.declared.expected.Fault.{Fault}
-use Rattle.script.specs.declared.expected.Fault.the-variants.{Memory, Unreadable as Unread}
-use Rattle.script.specs.declared.expected.Unreadable.{Unreadable}
+use Rattle.calls.specs.declared.expected.Expected.{Expected}
+use Rattle.calls.specs.declared.expected.Expected.the-variants as expected
+use Rattle.calls.specs.declared.expected.Keyword.{Keyword}
+use Rattle.calls.specs.declared.expected.Keyword.the-variants as word
+use Rattle.calls.specs.declared.expected.Fault.{Fault}
+use Rattle.calls.specs.declared.expected.Fault.the-variants.{Memory, Unreadable as Unread}
+use Rattle.calls.specs.declared.expected.Unreadable.{Unreadable}
 
 -- why words are no call: what was expected, and the word in its place, if there is one
 pub record Bad : Type 0 where
