@@ -3,3 +3,6 @@ pub mod codes;
 pub mod counts;
 pub mod record;
 pub mod slots;
+
+#[cfg(test)]
+mod tests;

@@ -2,3 +2,6 @@
 pub mod fault;
 pub mod layers;
 pub mod names;
+
+#[cfg(test)]
+mod tests;
