@@ -15,7 +15,10 @@ pub impl fmt::Display for Expected as ExpectedDisplay {
                 write!(f, "`{text}`")
             }
             Expected::Bytes => write!(f, "bytes: an even number of hexadecimal digits, or `-`"),
-            Expected::Run => write!(f, "a run: `fans`, `supplies`, `ids`, `temperatures`, `slots`, `counts` or a number up to 255"),
+            Expected::Run => write!(
+                f,
+                "a run: `fans`, `supplies`, `ids`, `temperatures`, `slots`, `counts` or a number up to 255"
+            ),
             Expected::Number(most) => write!(f, "a number up to {most}"),
             Expected::End => write!(f, "the end of the line"),
         }

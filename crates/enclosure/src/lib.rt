@@ -3,6 +3,5 @@ pub mod codes;
 pub mod counts;
 pub mod record;
 pub mod slots;
-
 #[cfg(test)]
 mod tests;

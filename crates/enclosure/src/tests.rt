@@ -10,7 +10,12 @@ use std::test::*;
 // Each state's byte, and the byte after prepare, release, insertion and removal.
 #[test]
 fn events_move_the_state() -> Result<(), Fail> {
-    for (from, prepare, release, insertion, removal) in [(2, 4, 2, 3, 2), (4, 4, 2, 5, 4), (3, 5, 3, 3, 2), (5, 5, 3, 5, 2)] {
+    for (from, prepare, release, insertion, removal) in [
+        (2, 4, 2, 3, 2),
+        (4, 4, 2, 5, 4),
+        (3, 5, 3, 3, 2),
+        (5, 5, 3, 5, 2),
+    ] {
         let state = PhysicalState::from_byte(from).ok_or("no state")?;
         check_eq(state.byte(), from)?;
         check_eq(state.after(SlotEvent::Prepare).byte(), prepare)?;
@@ -25,7 +30,15 @@ fn events_move_the_state() -> Result<(), Fail> {
 // Rows that are records and rows that are none.
 #[test]
 fn rows_are_checked() -> Result<(), Fail> {
-    for (flags, more, last, sound) in [(0xff, 1, 0, true), (0xfb, 3, 0, true), (4, 2, 0, false), (4, 0, 0, true), (0, 4, 0, false), (0, 0x80, 0, false), (0, 0, 1, false)] {
+    for (flags, more, last, sound) in [
+        (0xff, 1, 0, true),
+        (0xfb, 3, 0, true),
+        (4, 2, 0, false),
+        (4, 0, 0, true),
+        (0, 4, 0, false),
+        (0, 0x80, 0, false),
+        (0, 0, 1, false),
+    ] {
         match SlotRecord::from_row(Row { flags, more, last }) {
             Some(record) => {
                 check(sound)?;

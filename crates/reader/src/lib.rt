@@ -2,6 +2,5 @@
 pub mod fault;
 pub mod layers;
 pub mod names;
-
 #[cfg(test)]
 mod tests;

@@ -4,8 +4,11 @@ use std::test::*;
 
 // A shelf of 2 fans, 2 supplies, 4 slots and 1 sensor.
 const COUNTS: [u8; 7] = [2, 2, 4, 0, 1, 0, 0];
+
 const STATUS: [u8; 14] = [0, 0x80, 0x11, 0x20, 3, 4, 5, 6, 1, 0, 0x52, 0, 0, 0];
+
 const SLOTS: [u8; 17] = [0x80, 0, 0, 5, 1, 1, 0, 4, 0xfb, 3, 0, 3, 0, 0, 0, 2, 0];
+
 const INSERTED: [u8; 8] = [0, 1, 1, 0, 0xff, 0xff, 0, 0];
 
 fn config(counts: [u8; 7]) -> [u8; 64] {
@@ -28,16 +31,30 @@ fn outcome(config: &[u8], page: &[u8], run: Run, number: usize) -> (u32, usize, 
 #[test]
 fn first_last_and_past() -> Result<(), Fail> {
     let config = config(COUNTS);
-    for (run, last, place, byte) in [(0, 1, 1, 0x80), (1, 1, 3, 0x20), (2, 3, 7, 6), (3, 0, 10, 0x52)] {
-        check_eq(outcome(&config, &STATUS, Run::numbered(run), last), (0, place, byte))?;
-        check_eq(outcome(&config, &STATUS, Run::numbered(run), last.saturating_add(1)), (9, 0, 0))?;
+    for (run, last, place, byte) in [
+        (0, 1, 1, 0x80),
+        (1, 1, 3, 0x20),
+        (2, 3, 7, 6),
+        (3, 0, 10, 0x52),
+    ] {
+        check_eq(
+            outcome(&config, &STATUS, Run::numbered(run), last),
+            (0, place, byte),
+        )?;
+        check_eq(
+            outcome(&config, &STATUS, Run::numbered(run), last.saturating_add(1)),
+            (9, 0, 0),
+        )?;
     }
     check_eq(outcome(&config, &STATUS, Run::Fans, 0), (0, 0, 0))?;
     check_eq(outcome(&config, &SLOTS, Run::Slots, 0), (0, 0, 5))?;
     check_eq(outcome(&config, &SLOTS, Run::Slots, 3), (0, 12, 2))?;
     check_eq(outcome(&config, &SLOTS, Run::Slots, 4), (9, 0, 0))?;
     check_eq(outcome(&config, &INSERTED, Run::Counts, 2), (0, 4, 0xff))?;
-    check_eq(outcome(&config, &INSERTED, Run::Counts, usize::MAX), (9, 0, 0))
+    check_eq(
+        outcome(&config, &INSERTED, Run::Counts, usize::MAX),
+        (9, 0, 0),
+    )
 }
 
 // A run is read from every page that holds it whole, and from no page that is cut before its end.
@@ -53,8 +70,14 @@ fn pages_cut_at_every_length() -> Result<(), Fail> {
     }
     for len in 0..18 {
         let page = SLOTS.get(0..len).unwrap_or(&[]);
-        check_eq(outcome(&config, page, Run::Slots, 0).0, if page.len() < 16 { 8 } else { 0 })?;
-        check_eq(outcome(&config, page, Run::Counts, 0).0, if page.len() < 8 { 8 } else { 0 })?;
+        check_eq(
+            outcome(&config, page, Run::Slots, 0).0,
+            if page.len() < 16 { 8 } else { 0 },
+        )?;
+        check_eq(
+            outcome(&config, page, Run::Counts, 0).0,
+            if page.len() < 8 { 8 } else { 0 },
+        )?;
     }
     Ok(())
 }
@@ -90,7 +113,13 @@ fn faults_in_their_order() -> Result<(), Fail> {
     check_eq(outcome(&config, &[], Run::Fans, 1).0, 8)?;
     check_eq(outcome(&config, &[], Run::Supplies, 0).0, 8)?;
     check_eq(outcome(&config, &[0], Run::Supplies, 0).0, 9)?;
-    for (slot, fault) in [([0, 0, 0, 2], 0), ([4, 2, 0, 2], 10), ([0, 4, 0, 2], 10), ([0, 0, 1, 2], 10), ([0, 0, 0, 6], 10)] {
+    for (slot, fault) in [
+        ([0, 0, 0, 2], 0),
+        ([4, 2, 0, 2], 10),
+        ([0, 4, 0, 2], 10),
+        ([0, 0, 1, 2], 10),
+        ([0, 0, 0, 6], 10),
+    ] {
         check_eq(outcome(&config, &slot, Run::Slots, 0).0, fault)?;
     }
     Ok(())

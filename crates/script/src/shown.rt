@@ -23,7 +23,12 @@ use text::SpacedDisplay;
 pub fn answer_part(heap: Global, line: u64, question: &PartQuestion) -> Result<String, AllocError>
     ensures { λ r. ⌜ made r (λ s. string-bytes s ≡ numbered line (part-text (read-part (vec-items (now (question .entry) .config)) (vec-items (now (question .entry) .page)) (now (question .entry) .run) (now (question .entry) .number)))) ⌝ }
 {
-    match read_part(question.config.as_slice(), question.page.as_slice(), question.run, question.number as usize) {
+    match read_part(
+        question.config.as_slice(),
+        question.page.as_slice(),
+        question.run,
+        question.number as usize,
+    ) {
         Ok(Found { place, bytes }) => {
             let bytes = Spaced(bytes);
             format!(heap, "{line} part: place {place}, bytes {bytes}")
@@ -43,8 +48,14 @@ pub fn complain(heap: Global, line: u64, why: Unreadable<'_>) -> Result<String, 
     match found {
         Some(word) => {
             let word = Quoted(word);
-            format!(heap, "{line} unreadable: expected {expected}, found `{word}`")
+            format!(
+                heap,
+                "{line} unreadable: expected {expected}, found `{word}`"
+            )
         }
-        None => format!(heap, "{line} unreadable: expected {expected}, found the end of the line"),
+        None => format!(
+            heap,
+            "{line} unreadable: expected {expected}, found the end of the line"
+        ),
     }
 }

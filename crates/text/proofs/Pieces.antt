@@ -15,7 +15,7 @@ use Rattle.std.proofs.shelf.Lists.{at-drop-more, nil-from-length}
 use Rattle.std.proofs.shelf.Tests.{cond-true, cond-false, not-from-true, not-from-false}
 use Rattle.std.proofs.shelf.Ways.{tells}
 use Rattle.text.specs.declared.words.Part.the-variants.{Code, Gap, Word}
-use Rattle.text.specs.Words.{blank, comment, within, front, pieces, words, taken, joined-after, joined, IsWord}
+use Rattle.text.specs.Words.{blank, comment, within, front, pieces, words, taken, joined-after, joined-by, IsWord}
 
 module _ (test : ℕ → Bool) where
   front-le : (cs : List ℕ) → length (front test cs) ≤ length cs
@@ -170,7 +170,7 @@ module _ (b : ℕ) (is : blank b ≡ true) where
   found-after [] h = refl
   found-after (w ∷ ws) h = piece-gap true b (w ++ joined-after b ws) is ∙ word-first w (joined-after b ws) (h .0) (ends ws) ∙ ap (λ (l : List (List ℕ)). w ∷ l) (found-after ws (h .1))
 
-  found : (ws : List (List ℕ)) → All IsWord ws → pieces false (joined b ws) ≡ ws
+  found : (ws : List (List ℕ)) → All IsWord ws → pieces false (joined-by b ws) ≡ ws
   found [] h = refl
   found (w ∷ ws) h = word-first w (joined-after b ws) (h .0) (ends ws) ∙ ap (λ (l : List (List ℕ)). w ∷ l) (found-after ws (h .1))
 
@@ -178,9 +178,9 @@ module _ (b : ℕ) (is : blank b ≡ true) where
   code-after [] h = tt
   code-after (w ∷ ws) h = (blank-not-comment b is, all-append (λ c. within Code c ≡ true) w (joined-after b ws) (code-bytes w (h .0 .1)) (code-after ws (h .1)))
 
-  code-all : (ws : List (List ℕ)) → All IsWord ws → All (λ c. within Code c ≡ true) (joined b ws)
+  code-all : (ws : List (List ℕ)) → All IsWord ws → All (λ c. within Code c ≡ true) (joined-by b ws)
   code-all [] h = tt
   code-all (w ∷ ws) h = all-append (λ c. within Code c ≡ true) w (joined-after b ws) (code-bytes w (h .0 .1)) (code-after ws (h .1))
 
-  pub words-back : (line : List ℕ) (ws : List (List ℕ)) → All IsWord ws → line ≡ joined b ws → words line ≡ ws
-  words-back line ws h e = ap words e ∙ ap (pieces false) (front-all (within Code) (joined b ws) (code-all ws h)) ∙ found ws h
+  pub words-back : (line : List ℕ) (ws : List (List ℕ)) → All IsWord ws → line ≡ joined-by b ws → words line ≡ ws
+  words-back line ws h e = ap words e ∙ ap (pieces false) (front-all (within Code) (joined-by b ws) (code-all ws h)) ∙ found ws h

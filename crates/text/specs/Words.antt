@@ -10,7 +10,7 @@ use Rattle.std.specs.declared.option.Option.the-variants.{None, Some}
 use Rattle.std.specs.shelf.Lists.{All, kept-by}
 use Rattle.text.specs.declared.words.Words.{Words}
 use Rattle.text.specs.declared.words.Part.{Part}
-use Rattle.text.specs.declared.words.Part.the-variants.{Code, Gap, Word}
+use Rattle.text.specs.declared.words.Part.the-variants.{Line, Code, Gap, Word}
 
 -- A blank is a space, a tab or a carriage return.
 abbrev pub blank : ℕ → Bool
@@ -20,8 +20,13 @@ blank c = eqb c 32 || (eqb c 9 || eqb c 13)
 abbrev pub comment : ℕ → Bool
 comment c = eqb c 35
 
--- What a part of a line is made of: before the comment, blanks, or a word.
+-- A newline ends a line.
+abbrev pub newline : ℕ → Bool
+newline c = eqb c 10
+
+-- What a part of a text is made of: a line, what stands before its comment, blanks, or a word.
 abbrev pub within : Part → ℕ → Bool
+within Line c = not (newline c)
 within Code c = not (comment c)
 within Gap c = blank c
 within Word c = not (blank c)
@@ -30,6 +35,10 @@ within Word c = not (blank c)
 abbrev pub front : (ℕ → Bool) → List ℕ → List ℕ
 front test [] = []
 front test (c ∷ cs) = cond (test c) (c ∷ front test cs) []
+
+-- What stands before the first newline.
+abbrev pub first-line : List ℕ → List ℕ
+first-line text = front (within Line) text
 
 -- The words of a text with no comment: one begins at each byte that is no blank and follows none of a word,
 -- and runs up to the next blank. `inside` says whether the byte before is one of a word.
@@ -56,9 +65,9 @@ joined-after b [] = []
 joined-after b (w ∷ ws) = b ∷ (w ++ joined-after b ws)
 
 -- Words with one separator between each two.
-abbrev pub joined : ℕ → List (List ℕ) → List ℕ
-joined b [] = []
-joined b (w ∷ ws) = w ++ joined-after b ws
+abbrev pub joined-by : ℕ → List (List ℕ) → List ℕ
+joined-by b [] = []
+joined-by b (w ∷ ws) = w ++ joined-after b ws
 
 -- A word has a byte or more, and neither a blank nor a `#`.
 abbrev pub IsWord : List ℕ → Type 0

@@ -2,7 +2,7 @@
 ghost use mathlib.Core.Path.{_≡_};
 ghost use mathlib.Core.List.{List, map};
 ghost use mathlib.Core.Logic.{_⊎_};
-ghost use Prim.Native.Nat.{ℕ, _<_};
+ghost use Prim.Native.Nat.{ℕ, _%_, _<_};
 ghost use lib.ListN.{length};
 ghost use Rattle.std.specs.Of.Vec.{vec-items};
 ghost use Rattle.std.specs.Options.{Cases as BySome};
@@ -15,20 +15,14 @@ ghost use Rattle.text.specs.declared.hex.HexFault.the-variants.{Memory};
 ghost use Rattle.text.specs.Hex.{digit-of, byte-of, hex-read, bytes-read, Failed, spelled, spelled-upper};
 ghost use Rattle.text.specs.Shown.{spaced};
 ghost use Rattle.text.specs.Words.{unblanked};
-use std::alloc::AllocError;
 use std::alloc::Global;
 use std::alloc::Refused;
 
+// Why no bytes were read.
 #[derive(Clone, Copy, Debug, PartialEq)]
 pub enum HexFault {
     Memory,
     NotHex,
-}
-
-pub impl From<AllocError> for HexFault as HexFaultFromAlloc {
-    fn from(_e: AllocError) -> HexFault {
-        HexFault::Memory
-    }
 }
 
 pub impl<T: Drop> From<Refused<T>> for HexFault as HexFaultFromRefused {
@@ -52,6 +46,7 @@ pub fn hex_digit(c: u8) -> Option<u8>
     }
 }
 
+// The byte of a high and a low digit.
 fn hex_byte(high: u8, low: u8) -> Option<u8>
     ensures { λ r. ⌜ r ≡ byte-of high low ⌝ }
 {
@@ -61,12 +56,11 @@ fn hex_byte(high: u8, low: u8) -> Option<u8>
     }
 }
 
+// The bytes of a text of even length.
 fn read_pairs(heap: Global, text: &[u8]) -> Result<Vec<u8>, HexFault>
+    requires { ⌜ length (now text) % 2 ≡ 0 ⌝ }
     ensures { λ r. ⌜ Cases r (λ v. hex-read (now (text .entry)) ≡ Some (vec-items v)) (λ f. Failed f (hex-read (now (text .entry)))) ⌝ }
 {
-    if text.len() % 2 != 0 {
-        return Err(HexFault::NotHex);
-    }
     let mut bytes = Vec::new(heap);
     for k in 0..text.len() / 2 {
         match hex_byte(text[2 * k], text[2 * k + 1]) {
@@ -77,13 +71,16 @@ fn read_pairs(heap: Global, text: &[u8]) -> Result<Vec<u8>, HexFault>
     Ok(bytes)
 }
 
-// The bytes that `text` spells. Nothing else reads, and hex text of bytes reads as those bytes.
+// The bytes that `text` spells, two hex digits a byte. Only hex text reads, as the bytes that it was written of.
 pub fn read_hex(heap: Global, text: &[u8]) -> Result<Vec<u8>, HexFault>
     ensures reads { λ r. ⌜ Cases r (λ v. hex-read (now (text .entry)) ≡ Some (vec-items v)) (λ f. Failed f (hex-read (now (text .entry)))) ⌝ }
     ensures back { λ r. ⌜ ((bs : List ℕ) → All (λ b. b < 256) bs → (now (text .entry) ≡ spelled bs) ⊎ (now (text .entry) ≡ spelled-upper bs) → Cases r (λ v. vec-items v ≡ bs) (λ f. f ≡ Memory)) ⌝ }
     ensures unspaced { λ r. ⌜ ((bs : List ℕ) → All (λ b. b < 256) bs → 0 < length bs → now (text .entry) ≡ unblanked (spaced bs) → Cases r (λ v. vec-items v ≡ bs) (λ f. f ≡ Memory)) ⌝ }
     ensures only { λ r. ⌜ made r (λ v. map lower (now (text .entry)) ≡ spelled (vec-items v)) ⌝ }
 {
+    if text.len() % 2 != 0 {
+        return Err(HexFault::NotHex);
+    }
     read_pairs(heap, text)
 }
 

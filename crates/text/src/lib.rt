@@ -1,4 +1,5 @@
-// The words of a line of a script: how they are read and written.
+// The words of a line of a script, over bytes, since a script may hold any.
+// `hex` and `number` read a word as bytes or as a number, `words` parts a line, and `shown` writes.
 pub mod hex;
 pub mod number;
 pub mod shown;
@@ -6,7 +7,6 @@ pub mod words;
 
 pub use hex::HexFault;
 pub use hex::HexFaultDebug;
-pub use hex::HexFaultFromAlloc;
 pub use hex::HexFaultFromRefused;
 pub use hex::HexFaultPartialEq;
 pub use hex::hex_digit;
@@ -18,3 +18,4 @@ pub use shown::QuotedDisplay;
 pub use shown::Spaced;
 pub use shown::SpacedDisplay;
 pub use words::Words;
+pub use words::split_line;

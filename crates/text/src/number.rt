@@ -6,6 +6,7 @@ ghost use Rattle.std.specs.Written.{decimal};
 ghost use Rattle.std.specs.declared.option.Option.the-variants.{Some};
 ghost use Rattle.text.specs.Number.{all-digits, value-of, number-after, number-read, digit-after};
 
+// The number `n` with a further digit, if it stays at most `most`.
 fn add_digit(n: u32, c: u8, most: u32) -> Option<u32>
     ensures { λ r. ⌜ r ≡ digit-after most n c ⌝ }
 {
@@ -20,6 +21,7 @@ fn add_digit(n: u32, c: u8, most: u32) -> Option<u32>
     }
 }
 
+// The number that digits write, if it is at most `most`; none write 0.
 fn read_digits(word: &[u8], most: u32) -> Option<u32>
     ensures { λ r. ⌜ r ≡ number-after most 0 (now (word .entry)) ⌝ }
 {

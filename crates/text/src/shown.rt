@@ -10,6 +10,7 @@ ghost use Rattle.std.specs.declared.option.Option.the-variants.{Some};
 ghost use Rattle.text.specs.Shown.{pair, safe, formed, spaced, quoted};
 use std::fmt;
 
+// A hex digit in lower case.
 fn letter(d: u8) -> char
     requires { ⌜ d < 16 ⌝ }
     ensures value { λ r. ⌜ r ≡ digitChar d ⌝ }
@@ -31,13 +32,14 @@ fn write_hex<W: fmt::Write>(f: &mut fmt::Formatter<W>, before: &str, b: u8) -> f
     f.write_char(letter(b % 16))
 }
 
-// How a byte is written.
+// How a byte is written: as two digits after a blank, or as itself where that is safe.
 #[derive(Clone, Copy)]
 enum Form {
     Blank,
     Mark,
 }
 
+// Whether a byte is written as itself.
 fn is_safe(b: u8) -> bool
     ensures { λ r. ⌜ r ≡ safe b ⌝ }
 {
@@ -54,6 +56,7 @@ fn write_byte<W: fmt::Write>(f: &mut fmt::Formatter<W>, form: Form, b: u8) -> fm
     }
 }
 
+// Writes each byte in `form`.
 fn write_all<W: fmt::Write>(f: &mut fmt::Formatter<W>, form: Form, bytes: &[u8]) -> fmt::Result
     ensures { λ r. ⌜ Prints took (now (f .entry)) r (joined (formed form) (now (bytes .entry))) (now (f .exit)) ⌝ }
 {
@@ -81,7 +84,11 @@ pub impl fmt::Display for Spaced<'_> as SpacedDisplay {
     }
 }
 
-// Writes a word so that it is safe to print: a byte that is not as `\x` and two digits, and `...` after 40.
+// How many bytes of a word are shown.
+const MOST_SHOWN: usize = 40;
+
+// Writes a word so that it is safe to print: its visible bytes as they are but for the backquote and the backslash,
+// any other as `\x` and two hex digits, and `...` for what follows the first 40.
 #[derive(Clone, Copy)]
 pub struct Quoted<'a>(pub &'a [u8]);
 
@@ -90,10 +97,10 @@ pub impl fmt::Display for Quoted<'_> as QuotedDisplay {
 
     fn fmt<W: fmt::Write>(&self, f: &mut fmt::Formatter<W>) -> fmt::Result {
         let word = self.0;
-        if word.len() <= 40 {
+        if word.len() <= MOST_SHOWN {
             return write_all(f, Form::Mark, word);
         }
-        let (front, _) = word.split_at(40);
+        let (front, _) = word.split_at(MOST_SHOWN);
         write_all(f, Form::Mark, front)?;
         f.write_str("...")
     }

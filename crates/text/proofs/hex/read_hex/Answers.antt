@@ -1,11 +1,31 @@
+use mathlib.Core.List.{List}
+use Prim.Native.Nat.{ℕ}
+use native.Mathlib.Omega.{arith}
 use Rattle.std.specs.Of.Vec.{vec-items}
-use Rattle.text.proofs.Spelling.{reads-back, reads-only, reads-unspaced}
+use Rattle.std.specs.declared.result.Result.the-variants.{Err}
+use Rattle.text.specs.declared.hex.HexFault.the-variants.{NotHex}
+use Rattle.text.proofs.Spelling.{odd-none, reads-back, reads-unspaced, reads-only}
 use Rattle.text.proofs.hex.read_hex.Needs as need
 
+pub returns-then-text-ne0 : need.returns-then-text-ne0
+returns-then-text-ne0 c =
+    let text = c .args .text .now in
+    let none = odd-none text (omega arith) in
+    record {
+      reads = none;
+      back = reads-back (λ (v : List ℕ). v) (Err NotHex) text none;
+      unspaced = reads-unspaced (λ (v : List ℕ). v) (Err NotHex) text none;
+      only = tt;
+    }
+
 pub returns : need.returns
-returns c = record {
-  reads = c .read-pairs .ensures;
-  back = reads-back vec-items (c .read-pairs .result) (c .args .text .now) (c .read-pairs .ensures);
-  unspaced = reads-unspaced vec-items (c .read-pairs .result) (c .args .text .now) (c .read-pairs .ensures);
-  only = reads-only vec-items (c .read-pairs .result) (c .args .text .now) (c .read-pairs .ensures);
-}
+returns c =
+    let text = c .args .text .now in
+    let r = c .read-pairs .result in
+    let told = c .read-pairs .ensures in
+    record {
+      reads = told;
+      back = reads-back vec-items r text told;
+      unspaced = reads-unspaced vec-items r text told;
+      only = reads-only vec-items r text told;
+    }

@@ -1,17 +1,12 @@
 use mathlib.Core.Path.{_≡_, sym, ap, _∙_}
-use Prim.Native.Nat.{_+_, _*_, _%_, _<_}
+use Prim.Native.Nat.{_*_}
 use native.Mathlib.Omega.{arith}
-use borrow.Author.Needs.{needs}
-use lib.ListN.{length, drop}
 use Rattle.std.specs.Of.Vec.{vec-items}
 use Rattle.std.proofs.shelf.Lists.{at-drop-all, append-nil}
 use Rattle.std.specs.declared.option.Option.the-variants.{Some}
 use Rattle.text.specs.Hex.{hex-read}
-use Rattle.text.proofs.Spelling.{after, pairs-more, pairs-none, odd-none}
+use Rattle.text.proofs.Spelling.{after, pairs-more, pairs-none}
 use Rattle.text.proofs.hex.read_pairs.Needs as need
-
-pub returns-then-text-ne0 : need.returns-then-text-ne0
-returns-then-text-ne0 c = odd-none (c .args .text .now) (omega arith)
 
 pub returns-in-None : need.returns-in-None
 returns-in-None c = pairs-none (c .args .text .now) (vec-items (c .loop-k .bytes)) (c .loop-k .k) (omega arith) (sym (c .in-None .ensures tt)) (c .loop-k .inv)

@@ -10,10 +10,10 @@ use Rattle.text.specs.Shown.{formed, quoted}
 use Rattle.text.proofs.Printed.{quoted-short, quoted-long}
 use Rattle.text.proofs.shown.QuotedDisplay.fmt.Needs as need
 
-pub returns-then-word-le40 : need.returns-then-word-le40
-returns-then-word-le40 g c plain ok =
+pub returns-then-word-le-MOST-SHOWN : need.returns-then-word-le-MOST-SHOWN
+returns-then-word-le-MOST-SHOWN g c plain ok =
     let word = c .args .self .now .0 .now in
-    put-is (g .W·Write .took) (c .args .f .now) (joined (formed Mark) word) (quoted word) (c .write-all .last .f) (quoted-short word (c .if-word-le40 .taken)) (c .write-all .ensures plain ok)
+    put-is (g .W·Write .took) (c .args .f .now) (joined (formed Mark) word) (quoted word) (c .write-all .last .f) (quoted-short word (c .if-word-le-MOST-SHOWN .taken)) (c .write-all .ensures plain ok)
 
 pub returns : need.returns
 returns g c plain ok =

@@ -15,5 +15,5 @@ returns c =
     let e : pieces false rest ≡ words line = ap (pieces false) (front-is (within Code) line rest (c .span .result) (c .span .ensures) (c .split-at .ensures .front)) in
     record {
       all = e;
-      back = λ b ws is each joined. e ∙ words-back b is line ws each joined;
+      back = λ b ws is each same. e ∙ words-back b is line ws each same;
     }
