@@ -6,7 +6,7 @@ use native.Mathlib.Omega.{arith}
 use Rattle.std.specs.declared.option.Option.{Option}
 use Rattle.std.specs.declared.option.Option.the-variants.{Some, None}
 use Rattle.std.specs.declared.result.Result.the-variants.{Ok, Err}
-use Rattle.text.specs.Words.{taken}
+use Rattle.words.specs.Words.{taken}
 use Rattle.calls.specs.Fields.{Parsed, from-word, word-as}
 use Rattle.calls.specs.declared.expected.Expected.{Expected}
 

@@ -8,7 +8,7 @@ use Rattle.std.specs.declared.option.Option.{Option}
 use Rattle.std.specs.declared.option.Option.the-variants.{Some, None}
 use Rattle.std.specs.declared.result.Result.{Result}
 use Rattle.std.specs.declared.result.Result.the-variants.{Ok, Err}
-use Rattle.text.specs.Words.{taken}
+use Rattle.words.specs.Words.{taken}
 use Rattle.calls.specs.Calls.{Heard, Says, call-read, heard, line-read, only-call}
 use Rattle.calls.specs.Fields.{Bad, Parsed, Told}
 use Rattle.calls.specs.declared.call.Call.{Call}

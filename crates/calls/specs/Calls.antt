@@ -9,8 +9,8 @@ use Rattle.std.specs.declared.option.Option.the-variants.{Some, None}
 use Rattle.std.specs.declared.result.Result.{Result}
 use Rattle.std.specs.declared.result.Result.the-variants.{Ok, Err}
 use Rattle.reader.specs.declared.fault.Run.{Run}
-use Rattle.text.specs.Hex.{bytes-read}
-use Rattle.text.specs.Number.{number-read}
+use Rattle.digits.specs.Hex.{bytes-read}
+use Rattle.digits.specs.Number.{number-read}
 use Rattle.std.specs.shelf.Text.{sameBytes}
 use Rattle.calls.specs.Fields.{Bad, Parsed, at-end, keyword-read, keyword-text, run-read, seen, word-as}
 use Rattle.calls.specs.declared.call.Call.{Call}

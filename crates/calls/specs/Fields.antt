@@ -15,7 +15,7 @@ use Rattle.std.specs.shelf.Text.{sameBytes}
 use Rattle.reader.specs.Numbers.{run-numbered}
 use Rattle.reader.specs.declared.fault.Run.{Run}
 use Rattle.reader.specs.declared.fault.Run.the-variants.{Fans, Supplies, Ids, Temperatures, Slots, Counts}
-use Rattle.text.specs.Number.{number-read}
+use Rattle.digits.specs.Number.{number-read}
 use Rattle.calls.specs.declared.expected.Expected.{Expected}
 use Rattle.calls.specs.declared.expected.Expected.the-variants as expected
 use Rattle.calls.specs.declared.expected.Keyword.{Keyword}

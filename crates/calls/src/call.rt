@@ -1,7 +1,7 @@
 // The calls of a script, each from the words of a line.
 ghost use Rattle.std.specs.Of.Vec.{vec-items};
 ghost use Rattle.std.specs.Options.{mapped};
-ghost use Rattle.text.specs.Words.{left, words};
+ghost use Rattle.words.specs.Words.{left, words};
 ghost use Rattle.calls.specs.Calls.{Says, asked, call-read, heard, line-read, named-bytes, part-asked};
 ghost use Rattle.calls.specs.Fields.{Told};
 use crate::expected::Expected;
@@ -12,7 +12,7 @@ use crate::expected::Unreadable;
 use crate::fields;
 use reader::fault::Run;
 use std::alloc::Global;
-use text::Words;
+use words::Words;
 
 // A call of a script.
 #[derive(Drop)]

@@ -2,21 +2,21 @@
 ghost use mathlib.Core.Path.{_≡_};
 ghost use Rattle.std.specs.shelf.Text.{sameBytes};
 ghost use Rattle.std.specs.Of.Vec.{vec-items};
-ghost use Rattle.text.specs.Hex.{bytes-read};
-ghost use Rattle.text.specs.Number.{number-read};
-ghost use Rattle.text.specs.Words.{left};
+ghost use Rattle.digits.specs.Hex.{bytes-read};
+ghost use Rattle.digits.specs.Number.{number-read};
+ghost use Rattle.words.specs.Words.{left};
 ghost use Rattle.calls.specs.Fields.{Told, at-end, keyword-read, keyword-text, parsed, run-read, word-as};
 ghost use Rattle.calls.specs.declared.expected.Expected.the-variants as expected;
 use crate::expected::Expected;
 use crate::expected::Fault;
 use crate::expected::Keyword;
 use crate::expected::Unreadable;
+use digits::hex::HexFault;
+use digits::hex::read_bytes;
+use digits::number::read_number;
 use reader::fault::Run;
 use std::alloc::Global;
-use text::HexFault;
-use text::Words;
-use text::read_bytes;
-use text::read_number;
+use words::Words;
 
 impl Keyword {
     pub fn text(self) -> &'static str

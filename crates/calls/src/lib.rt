@@ -1,5 +1,5 @@
 // Which call a line of text is, or what was expected in it.
 pub mod call;
 pub mod expected;
-pub mod fields;
+mod fields;
 pub mod shown;

@@ -1,4 +1,7 @@
 // Runs scripts: calls as text in, their answers as text out, a line for each as soon as it is read.
+ghost use mathlib.Core.Path.{_≡_};
+ghost use Rattle.std.specs.Vec.{made};
+ghost use Rattle.script.specs.Texts.{readable, spoken};
 use script::gathered::LineBuffer;
 use script::response::Response;
 use std::env;
@@ -9,19 +12,14 @@ use std::io::BufRead;
 use std::io::BufReader;
 use std::io::Read;
 
-// Prints what is said to a line. Answers whether it was readable.
-fn print_response(rt: &LibcRuntime, said: &Response) -> io::Result<bool> {
-    match said {
-        Response::Nothing => Ok(true),
-        Response::Answer(text) => {
-            println!(rt, "{text}")?;
-            Ok(true)
-        }
-        Response::Unreadable(text) => {
-            println!(rt, "{text}")?;
-            Ok(false)
-        }
+// Prints what is said to a line. Answers whether the line could be read.
+fn print_response(rt: &LibcRuntime, said: &Response) -> io::Result<bool>
+    ensures { λ r. ⌜ made r (λ b. b ≡ readable (spoken (now (said .entry)))) ⌝ }
+{
+    if let Some(text) = said.text() {
+        println!(rt, "{text}")?;
     }
+    Ok(said.is_readable())
 }
 
 // Takes the next chunk of input into the line. Answers whether the line has ended, or nothing at the end of the input.

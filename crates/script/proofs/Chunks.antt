@@ -7,7 +7,7 @@ use native.Mathlib.Omega.{arith}
 use lib.Dec.{eqb, ltb}
 use lib.ListN.{length, length-append}
 use borrow.Author.Tests.{ltb-true, lt-ltb, le-ltb, lt-true, le-false}
-use Rattle.text.specs.Words.{first-line}
+use Rattle.words.specs.Words.{first-line}
 use Rattle.script.specs.Gathered.{Held, add, longest, newline-in, used-of}
 
 -- what is held of a line of k bytes, if they are these

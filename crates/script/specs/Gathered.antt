@@ -6,7 +6,7 @@ use lib.Chars.{codes}
 use lib.Dec.{eqb, ltb}
 use lib.ListN.{length}
 use Rattle.std.specs.Of.Vec.{vec-items}
-use Rattle.text.specs.Words.{first-line}
+use Rattle.words.specs.Words.{first-line}
 use Rattle.script.specs.Texts.{Spoken, unreadable, line-spoken, numbered}
 use Rattle.script.specs.declared.gathered.LineBuffer.{LineBuffer}
 

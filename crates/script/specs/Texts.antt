@@ -1,4 +1,5 @@
 -- The text that answers a line.
+use mathlib.Core.Bool.{Bool, true, false}
 use mathlib.Core.List.{List, [], _∷_, _++_}
 use mathlib.Core.Path.{_≡_}
 use Prim.Native.Nat.{ℕ}
@@ -15,8 +16,8 @@ use Rattle.calls.specs.Texts.{expected-text}
 use Rattle.reader.specs.Numbers.{fault-number}
 use Rattle.reader.specs.Reads.{Handed, read-part}
 use Rattle.reader.specs.declared.fault.Fault.{Fault}
-use Rattle.text.specs.Shown.{quoted, spaced}
-use Rattle.text.specs.Words.{words}
+use Rattle.printed.specs.Shown.{quoted, spaced}
+use Rattle.words.specs.Words.{words}
 use Rattle.script.specs.declared.response.Response.{Response}
 use Rattle.script.specs.declared.response.Response.the-variants as response
 
@@ -62,3 +63,15 @@ abbrev pub spoken : Response → Spoken
 spoken response.Nothing = nothing
 spoken (response.Answer s) = answer (string-bytes s)
 spoken (response.Unreadable s) = unreadable (string-bytes s)
+
+-- the text that is said, if any is
+abbrev pub text-of : Spoken → Option (List ℕ)
+text-of nothing = None
+text-of (answer text) = Some text
+text-of (unreadable text) = Some text
+
+-- whether the line could be read
+abbrev pub readable : Spoken → Bool
+readable nothing = true
+readable (answer text) = true
+readable (unreadable text) = false

@@ -10,14 +10,14 @@ ghost use Rattle.script.specs.Texts.{bad-text, numbered, part-text};
 use calls::call::PartQuestion;
 use calls::expected::Unreadable;
 use calls::shown::ExpectedDisplay;
+use printed::Quoted;
+use printed::QuotedDisplay;
+use printed::Spaced;
+use printed::SpacedDisplay;
 use reader::fault::Found;
 use reader::layers::read_part;
 use std::alloc::AllocError;
 use std::alloc::Global;
-use text::Quoted;
-use text::QuotedDisplay;
-use text::Spaced;
-use text::SpacedDisplay;
 
 // The reader's answer to a question, behind the number of its line.
 pub fn answer_part(heap: Global, line: u64, question: &PartQuestion) -> Result<String, AllocError>

@@ -2,13 +2,13 @@
 ghost use mathlib.Core.Path.{_≡_};
 ghost use Rattle.std.specs.Of.String.{string-bytes};
 ghost use Rattle.std.specs.Vec.{made};
-ghost use Rattle.text.specs.Shown.{quoted, spaced};
+ghost use Rattle.printed.specs.Shown.{quoted, spaced};
+use printed::Quoted;
+use printed::QuotedDisplay;
+use printed::Spaced;
+use printed::SpacedDisplay;
 use std::alloc::AllocError;
 use std::alloc::Global;
-use text::Quoted;
-use text::QuotedDisplay;
-use text::Spaced;
-use text::SpacedDisplay;
 
 // Bytes as text, and a word as it is printed.
 pub fn spaced_text(heap: Global, bytes: &[u8]) -> Result<String, AllocError>
@@ -27,16 +27,16 @@ pub fn quoted_text(heap: Global, word: &[u8]) -> Result<String, AllocError>
 mod tests {
     use super::quoted_text;
     use super::spaced_text;
+    use digits::hex::HexFault;
+    use digits::hex::HexFaultDebug;
+    use digits::hex::HexFaultPartialEq;
+    use digits::hex::hex_digit;
+    use digits::hex::read_bytes;
+    use digits::hex::read_hex;
+    use digits::number::read_number;
     use std::alloc::Global;
     use std::test::*;
-    use text::HexFault;
-    use text::HexFaultDebug;
-    use text::HexFaultPartialEq;
-    use text::Words;
-    use text::hex_digit;
-    use text::read_bytes;
-    use text::read_hex;
-    use text::read_number;
+    use words::Words;
 
     #[test]
     fn digits() -> Result<(), Fail> {
@@ -115,10 +115,8 @@ mod tests {
     fn finds(line: &str, words: &[&str]) -> Result<(), Fail> {
         let mut left = Words::of(line.as_bytes());
         for word in words {
-            is_word(left.peek(), word)?;
             is_word(left.next(), word)?;
         }
-        check(left.peek().is_none())?;
         check(left.next().is_none())
     }
 

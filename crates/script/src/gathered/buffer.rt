@@ -7,7 +7,7 @@ ghost use lib.Dec.{eqb};
 ghost use lib.ListN.{length};
 ghost use Rattle.std.specs.Results.{isOk};
 ghost use Rattle.std.specs.Vec.{made};
-ghost use Rattle.text.specs.Words.{first-line};
+ghost use Rattle.words.specs.Words.{first-line};
 ghost use Rattle.script.specs.Gathered.{Held, add, begun, held, held-spoken, newline-in, nothing-in, over-spoken, used-of};
 ghost use Rattle.script.specs.Texts.{spoken};
 use crate::gathered::LineBuffer;
@@ -15,7 +15,7 @@ use crate::lines::respond;
 use crate::response::Response;
 use std::alloc::AllocError;
 use std::alloc::Global;
-use text::split_line;
+use words::split_line;
 
 // How many bytes of a chunk were taken, and whether the line ends with them.
 #[derive(Clone, Copy)]

@@ -2,7 +2,7 @@ use borrow.Author.Needs.{needs}
 use mathlib.Core.Path.{_≡_, ap, _∙_}
 use native.Mathlib.Omega.{arith}
 use lib.ListN.{length}
-use Rattle.text.specs.Words.{first-line}
+use Rattle.words.specs.Words.{first-line}
 use Rattle.script.specs.Gathered.{add, held}
 use Rattle.script.proofs.Chunks.{add-more, newline-ends, no-newline}
 use Rattle.script.proofs.gathered.LineBuffer.take.Needs as need

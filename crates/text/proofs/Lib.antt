@@ -1,4 +1,0 @@
-pub mod Spelling
-pub mod Figures
-pub mod Pieces
-pub mod Printed

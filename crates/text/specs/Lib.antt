@@ -1,4 +1,0 @@
-pub mod Hex
-pub mod Number
-pub mod Words
-pub mod Shown
