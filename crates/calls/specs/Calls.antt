@@ -11,16 +11,15 @@ use Rattle.std.specs.declared.result.Result.the-variants.{Ok, Err}
 use Rattle.reader.specs.declared.fault.Run.{Run}
 use Rattle.digits.specs.Hex.{bytes-read}
 use Rattle.digits.specs.Number.{number-read}
-use Rattle.std.specs.shelf.Text.{sameBytes}
-use Rattle.calls.specs.Fields.{Bad, Parsed, at-end, keyword-read, keyword-text, run-read, seen, word-as}
+use Rattle.fields.specs.Fields.{Bad, Parsed, at-end, is-text, keyword-read, keyword-text, run-read, seen, word-as}
 use Rattle.calls.specs.declared.call.Call.{Call}
 use Rattle.calls.specs.declared.call.Call.the-variants.{Part}
 use Rattle.calls.specs.declared.call.PartQuestion.{PartQuestion}
-use Rattle.calls.specs.declared.expected.Expected.the-variants as expected
-use Rattle.calls.specs.declared.expected.Fault.{Fault}
-use Rattle.calls.specs.declared.expected.Fault.the-variants.{Memory, Unreadable as Unread}
-use Rattle.calls.specs.declared.expected.Keyword.{Keyword}
-use Rattle.calls.specs.declared.expected.Keyword.the-variants as word
+use Rattle.fields.specs.declared.expected.Expected.the-variants as expected
+use Rattle.fields.specs.declared.expected.Fault.{Fault}
+use Rattle.fields.specs.declared.expected.Fault.the-variants.{Memory, Unreadable as Unread}
+use Rattle.fields.specs.declared.expected.Keyword.{Keyword}
+use Rattle.fields.specs.declared.expected.Keyword.the-variants as word
 
 -- which part of a page is wanted
 pub record Asked : Type 0 where
@@ -74,7 +73,7 @@ made-call f p = then-read p (λ x ws. Ok (f x, ws))
 -- the call that begins with a word, from the words that follow it
 abbrev pub call-read : List ℕ → List (List ℕ) → Parsed Heard
 call-read verb ws =
-    cond (sameBytes verb (keyword-text word.Part)) (made-call part (whole (part-asked ws)))
+    cond (is-text verb (keyword-text word.Part)) (made-call part (whole (part-asked ws)))
     (Err (record { expected = expected.Call; found = Some verb }))
 
 -- a call, with no words left to say

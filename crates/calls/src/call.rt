@@ -3,13 +3,13 @@ ghost use Rattle.std.specs.Of.Vec.{vec-items};
 ghost use Rattle.std.specs.Options.{mapped};
 ghost use Rattle.words.specs.Words.{left, words};
 ghost use Rattle.calls.specs.Calls.{Says, asked, call-read, heard, line-read, named-bytes, part-asked};
-ghost use Rattle.calls.specs.Fields.{Told};
-use crate::expected::Expected;
-use crate::expected::Fault;
-use crate::expected::FaultFromUnreadable;
-use crate::expected::Keyword;
-use crate::expected::Unreadable;
-use crate::fields;
+ghost use Rattle.fields.specs.Fields.{Told};
+use fields::expected::Expected;
+use fields::expected::Fault;
+use fields::expected::FaultFromUnreadable;
+use fields::expected::Keyword;
+use fields::expected::Unreadable;
+use fields::reading;
 use reader::fault::Run;
 use std::alloc::Global;
 use words::Words;
@@ -33,8 +33,8 @@ pub struct PartQuestion {
 fn named_bytes<'a>(heap: Global, words: &mut Words<'a>, name: Keyword) -> Result<Vec<u8>, Fault<'a>>
     ensures { λ r. ⌜ Told vec-items r (left (now (words .exit))) (named-bytes name (left (now (words .entry)))) ⌝ }
 {
-    fields::keyword(words, name)?;
-    fields::bytes(heap, words)
+    reading::keyword(words, name)?;
+    reading::bytes(heap, words)
 }
 
 // What follows the word `part`.
@@ -43,10 +43,10 @@ fn part_question<'a>(heap: Global, words: &mut Words<'a>) -> Result<PartQuestion
 {
     let config = named_bytes(heap, words, Keyword::Config)?;
     let page = named_bytes(heap, words, Keyword::Page)?;
-    fields::keyword(words, Keyword::Run)?;
-    let run = fields::run(words)?;
-    fields::keyword(words, Keyword::Number)?;
-    let number = fields::number(words, u32::MAX)?;
+    reading::keyword(words, Keyword::Run)?;
+    let run = reading::run(words)?;
+    reading::keyword(words, Keyword::Number)?;
+    let number = reading::number(words, u32::MAX)?;
     Ok(PartQuestion {
         config,
         page,
@@ -59,9 +59,9 @@ fn part_question<'a>(heap: Global, words: &mut Words<'a>) -> Result<PartQuestion
 fn call_named<'a>(heap: Global, verb: &'a [u8], rest: &mut Words<'a>) -> Result<Call, Fault<'a>>
     ensures { λ r. ⌜ Told heard r (left (now (rest .exit))) (call-read (now (verb .entry)) (left (now (rest .entry)))) ⌝ }
 {
-    if fields::same(verb, Keyword::Part.text()) {
+    if reading::same(verb, Keyword::Part.text()) {
         let question = part_question(heap, rest)?;
-        fields::end(rest)?;
+        reading::end(rest)?;
         Ok(Call::Part(question))
     } else {
         Err(Fault::Unreadable(Unreadable {

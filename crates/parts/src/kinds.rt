@@ -39,7 +39,8 @@ pub impl Part for FanCode as FanPart {
     }
 
     fn lay(&self, out: &mut [u8]) -> bool {
-        fill(out, &[self.byte()])
+        let fan = self.byte();
+        fill(out, &[fan])
     }
 
     fn read(bytes: &[u8]) -> Option<FanCode> {
@@ -64,7 +65,8 @@ pub impl Part for SupplyCode as SupplyPart {
     }
 
     fn lay(&self, out: &mut [u8]) -> bool {
-        fill(out, &[self.byte()])
+        let supply = self.byte();
+        fill(out, &[supply])
     }
 
     fn read(bytes: &[u8]) -> Option<SupplyCode> {

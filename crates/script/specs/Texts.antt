@@ -11,8 +11,8 @@ use Rattle.std.specs.declared.option.Option.the-variants.{Some, None}
 use Rattle.std.specs.declared.result.Result.{Result}
 use Rattle.std.specs.declared.result.Result.the-variants.{Ok, Err}
 use Rattle.calls.specs.Calls.{Heard, part, line-read}
-use Rattle.calls.specs.Fields.{Bad}
-use Rattle.calls.specs.Texts.{expected-text}
+use Rattle.fields.specs.Fields.{Bad}
+use Rattle.fields.specs.Texts.{expected-text}
 use Rattle.reader.specs.Numbers.{fault-number}
 use Rattle.reader.specs.Reads.{Handed, read-part}
 use Rattle.reader.specs.declared.fault.Fault.{Fault}

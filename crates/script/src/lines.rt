@@ -9,7 +9,7 @@ use crate::shown::answer_part;
 use crate::shown::complain;
 use calls::call::Call;
 use calls::call::read_call;
-use calls::expected::Fault;
+use fields::expected::Fault;
 use std::alloc::AllocError;
 use std::alloc::Global;
 

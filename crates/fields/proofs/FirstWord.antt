@@ -7,8 +7,8 @@ use Rattle.std.specs.declared.option.Option.{Option}
 use Rattle.std.specs.declared.option.Option.the-variants.{Some, None}
 use Rattle.std.specs.declared.result.Result.the-variants.{Ok, Err}
 use Rattle.words.specs.Words.{taken}
-use Rattle.calls.specs.Fields.{Parsed, from-word, word-as}
-use Rattle.calls.specs.declared.expected.Expected.{Expected}
+use Rattle.fields.specs.Fields.{Parsed, from-word, word-as}
+use Rattle.fields.specs.declared.expected.Expected.{Expected}
 
 pub first-reads : {X : Type 0} (e : Expected) (f : List ℕ → Option X) (ws rest : List (List ℕ)) (w : List ℕ) (x : X) → (Some w, rest) ≡ taken ws → Some x ≡ f w → _≡_ {A = Parsed X} (Ok (x, rest)) (word-as e f ws)
 first-reads e f [] rest w x t r = let z : _≡_ {A = ℕ} 0 1 = cc (ap (λ p. p .0) t) in absurd (omega arith)

@@ -1,7 +1,7 @@
 use mathlib.Core.Path.{sym, subst}
 use Rattle.std.specs.Written.{Prints}
-use Rattle.calls.specs.Texts.{expected-text}
-use Rattle.calls.proofs.shown.ExpectedDisplay.fmt.Needs as need
+use Rattle.fields.specs.Texts.{expected-text}
+use Rattle.fields.proofs.shown.ExpectedDisplay.fmt.Needs as need
 
 pub returns-in-Bytes : need.returns-in-Bytes
 returns-in-Bytes g c =

@@ -1,5 +1,5 @@
 -- How the words of a line are read, one after another.
-use mathlib.Core.Bool.{cond}
+use mathlib.Core.Bool.{Bool, cond}
 use mathlib.Core.List.{List, [], _∷_}
 use mathlib.Core.Path.{_≡_}
 use Prim.Native.Nat.{ℕ}
@@ -16,13 +16,13 @@ use Rattle.reader.specs.Numbers.{run-numbered}
 use Rattle.reader.specs.declared.fault.Run.{Run}
 use Rattle.reader.specs.declared.fault.Run.the-variants.{Fans, Supplies, Ids, Temperatures, Slots, Counts}
 use Rattle.digits.specs.Number.{number-read}
-use Rattle.calls.specs.declared.expected.Expected.{Expected}
-use Rattle.calls.specs.declared.expected.Expected.the-variants as expected
-use Rattle.calls.specs.declared.expected.Keyword.{Keyword}
-use Rattle.calls.specs.declared.expected.Keyword.the-variants as word
-use Rattle.calls.specs.declared.expected.Fault.{Fault}
-use Rattle.calls.specs.declared.expected.Fault.the-variants.{Memory, Unreadable as Unread}
-use Rattle.calls.specs.declared.expected.Unreadable.{Unreadable}
+use Rattle.fields.specs.declared.expected.Expected.{Expected}
+use Rattle.fields.specs.declared.expected.Expected.the-variants as expected
+use Rattle.fields.specs.declared.expected.Keyword.{Keyword}
+use Rattle.fields.specs.declared.expected.Keyword.the-variants as word
+use Rattle.fields.specs.declared.expected.Fault.{Fault}
+use Rattle.fields.specs.declared.expected.Fault.the-variants.{Memory, Unreadable as Unread}
+use Rattle.fields.specs.declared.expected.Unreadable.{Unreadable}
 
 -- why words are no call: what was expected, and the word in its place, if there is one
 pub record Bad : Type 0 where
@@ -58,6 +58,10 @@ abbrev pub word-as : {X : Type 0} → Expected → (List ℕ → Option X) → L
 word-as e f [] = Err (record { expected = e; found = None })
 word-as e f (w ∷ ws) = from-word e w ws (f w)
 
+-- a word is this text, in its own letters
+unfoldable pub is-text : List ℕ → List ℕ → Bool
+is-text w text = sameBytes w text
+
 -- the text of each keyword
 abbrev pub keyword-text : Keyword → List ℕ
 keyword-text word.Part = codes "part"
@@ -66,9 +70,9 @@ keyword-text word.Page = codes "page"
 keyword-text word.Run = codes "run"
 keyword-text word.Number = codes "number"
 
--- a word that is the keyword, in its own letters
+-- a word that is the keyword
 abbrev pub keyword-read : Keyword → List ℕ → Option (Unit {0})
-keyword-read k w = cond (sameBytes w (keyword-text k)) (Some tt) None
+keyword-read k w = cond (is-text w (keyword-text k)) (Some tt) None
 
 -- a run's number, if it is one
 abbrev pub run-of-number : Option ℕ → Option Run
@@ -78,8 +82,8 @@ run-of-number (Some n) = Some (run-numbered n)
 -- a run by its name, or by a number up to 255
 abbrev pub run-read : List ℕ → Option Run
 run-read w =
-    cond (sameBytes w (codes "fans")) (Some Fans) (cond (sameBytes w (codes "supplies")) (Some Supplies) (cond (sameBytes w (codes "ids")) (Some Ids)
-    (cond (sameBytes w (codes "temperatures")) (Some Temperatures) (cond (sameBytes w (codes "slots")) (Some Slots) (cond (sameBytes w (codes "counts")) (Some Counts)
+    cond (is-text w (codes "fans")) (Some Fans) (cond (is-text w (codes "supplies")) (Some Supplies) (cond (is-text w (codes "ids")) (Some Ids)
+    (cond (is-text w (codes "temperatures")) (Some Temperatures) (cond (is-text w (codes "slots")) (Some Slots) (cond (is-text w (codes "counts")) (Some Counts)
     (run-of-number (number-read 255 w)))))))
 
 -- no word is left

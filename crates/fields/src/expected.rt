@@ -1,6 +1,6 @@
 // What a line was expected to hold, and what stands there.
 ghost use mathlib.Core.Path.{_≡_};
-ghost use Rattle.calls.specs.declared.expected.Fault.the-variants.{Memory, Unreadable as Unread};
+ghost use Rattle.fields.specs.declared.expected.Fault.the-variants.{Memory, Unreadable as Unread};
 use std::alloc::AllocError;
 
 // The words that name calls and their fields.

@@ -1,12 +1,11 @@
 // The fields of a line, read word by word.
 ghost use mathlib.Core.Path.{_≡_};
-ghost use Rattle.std.specs.shelf.Text.{sameBytes};
 ghost use Rattle.std.specs.Of.Vec.{vec-items};
 ghost use Rattle.digits.specs.Hex.{bytes-read};
 ghost use Rattle.digits.specs.Number.{number-read};
 ghost use Rattle.words.specs.Words.{left};
-ghost use Rattle.calls.specs.Fields.{Told, at-end, keyword-read, keyword-text, parsed, run-read, word-as};
-ghost use Rattle.calls.specs.declared.expected.Expected.the-variants as expected;
+ghost use Rattle.fields.specs.Fields.{Told, at-end, is-text, keyword-read, keyword-text, parsed, run-read, word-as};
+ghost use Rattle.fields.specs.declared.expected.Expected.the-variants as expected;
 use crate::expected::Expected;
 use crate::expected::Fault;
 use crate::expected::Keyword;
@@ -34,7 +33,7 @@ impl Keyword {
 
 // Whether a word is this text.
 pub fn same(word: &[u8], text: &str) -> bool
-    ensures { λ r. ⌜ r ≡ sameBytes (now (word .entry)) (now (text .entry)) ⌝ }
+    ensures { λ r. ⌜ r ≡ is-text (now (word .entry)) (now (text .entry)) ⌝ }
 {
     word == text.as_bytes()
 }

@@ -3,9 +3,9 @@ use mathlib.Core.List.{List, _++_}
 use Prim.Native.Nat.{ℕ}
 use lib.Chars.{codes}
 use Rattle.std.specs.Written.{decimal}
-use Rattle.calls.specs.Fields.{keyword-text}
-use Rattle.calls.specs.declared.expected.Expected.{Expected}
-use Rattle.calls.specs.declared.expected.Expected.the-variants as expected
+use Rattle.fields.specs.Fields.{keyword-text}
+use Rattle.fields.specs.declared.expected.Expected.{Expected}
+use Rattle.fields.specs.declared.expected.Expected.the-variants as expected
 
 -- what was expected, in words
 abbrev pub expected-text : Expected → List ℕ

@@ -1,6 +1,6 @@
 // What was expected in a line, in words.
 ghost use Rattle.std.specs.declared.option.Option.the-variants.{Some};
-ghost use Rattle.calls.specs.Texts.{expected-text};
+ghost use Rattle.fields.specs.Texts.{expected-text};
 use crate::expected::Expected;
 use std::fmt;
 
