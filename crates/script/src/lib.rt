@@ -3,3 +3,6 @@ pub mod gathered;
 pub mod lines;
 pub mod response;
 pub mod shown;
+
+#[cfg(test)]
+mod tests;
