@@ -3,3 +3,4 @@ pub mod Flags
 pub mod Records
 pub mod Slots
 pub mod Codes
+pub mod Conditions

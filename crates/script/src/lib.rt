@@ -3,6 +3,5 @@ pub mod gathered;
 pub mod lines;
 pub mod response;
 pub mod shown;
-
 #[cfg(test)]
 mod tests;

@@ -6,20 +6,62 @@ use std::test::*;
 #[test]
 fn lines_and_what_is_said(rt: LibcRuntime) -> Result<(), Fail> {
     let rows = [
-        ("part", "7 unreadable: expected `config`, found the end of the line"),
-        ("part page - config -", "7 unreadable: expected `config`, found `page`"),
-        ("part config 0 page -", "7 unreadable: expected bytes: an even number of hexadecimal digits, or `-`, found `0`"),
-        ("part config 0g page -", "7 unreadable: expected bytes: an even number of hexadecimal digits, or `-`, found `0g`"),
-        ("part config - page", "7 unreadable: expected bytes: an even number of hexadecimal digits, or `-`, found the end of the line"),
-        ("part config - page - run", "7 unreadable: expected a run: `fans`, `supplies`, `ids`, `temperatures`, `slots`, `counts` or a number up to 255, found the end of the line"),
-        ("part config - page - run Fans", "7 unreadable: expected a run: `fans`, `supplies`, `ids`, `temperatures`, `slots`, `counts` or a number up to 255, found `Fans`"),
-        ("part config - page - run 256 number 0", "7 unreadable: expected a run: `fans`, `supplies`, `ids`, `temperatures`, `slots`, `counts` or a number up to 255, found `256`"),
-        ("part config - page - run 255 number -1", "7 unreadable: expected a number up to 4294967295, found `-1`"),
-        ("part config - page - run fans number 4294967296", "7 unreadable: expected a number up to 4294967295, found `4294967296`"),
-        ("part config - page - run fans number 0 0", "7 unreadable: expected the end of the line, found `0`"),
-        ("Part config - page - run fans number 0", "7 unreadable: expected a call: `part`, found `Part`"),
-        ("pa\u{e9}rt \\", "7 unreadable: expected a call: `part`, found `pa\\xc3\\xa9rt`"),
-        ("\tpart  config - page - run fans number 00000000004294967295\r# x", "7 part: refused 7"),
+        (
+            "part",
+            "7 unreadable: expected `config`, found the end of the line",
+        ),
+        (
+            "part page - config -",
+            "7 unreadable: expected `config`, found `page`",
+        ),
+        (
+            "part config 0 page -",
+            "7 unreadable: expected bytes: an even number of hexadecimal digits, or `-`, found `0`",
+        ),
+        (
+            "part config 0g page -",
+            "7 unreadable: expected bytes: an even number of hexadecimal digits, or `-`, found `0g`",
+        ),
+        (
+            "part config - page",
+            "7 unreadable: expected bytes: an even number of hexadecimal digits, or `-`, found the end of the line",
+        ),
+        (
+            "part config - page - run",
+            "7 unreadable: expected a run: `fans`, `supplies`, `ids`, `temperatures`, `slots`, `counts` or a number up to 255, found the end of the line",
+        ),
+        (
+            "part config - page - run Fans",
+            "7 unreadable: expected a run: `fans`, `supplies`, `ids`, `temperatures`, `slots`, `counts` or a number up to 255, found `Fans`",
+        ),
+        (
+            "part config - page - run 256 number 0",
+            "7 unreadable: expected a run: `fans`, `supplies`, `ids`, `temperatures`, `slots`, `counts` or a number up to 255, found `256`",
+        ),
+        (
+            "part config - page - run 255 number -1",
+            "7 unreadable: expected a number up to 4294967295, found `-1`",
+        ),
+        (
+            "part config - page - run fans number 4294967296",
+            "7 unreadable: expected a number up to 4294967295, found `4294967296`",
+        ),
+        (
+            "part config - page - run fans number 0 0",
+            "7 unreadable: expected the end of the line, found `0`",
+        ),
+        (
+            "Part config - page - run fans number 0",
+            "7 unreadable: expected a call: `part`, found `Part`",
+        ),
+        (
+            "pa\u{e9}rt \\",
+            "7 unreadable: expected a call: `part`, found `pa\\xc3\\xa9rt`",
+        ),
+        (
+            "\tpart  config - page - run fans number 00000000004294967295\r# x",
+            "7 part: refused 7",
+        ),
     ];
     for (line, said) in rows {
         match respond(rt.alloc(), 7, line.as_bytes())?.text() {
@@ -53,7 +95,10 @@ fn long_lines(rt: LibcRuntime) -> Result<(), Fail> {
     let said = line.answer(heap, 2)?;
     check(!said.is_readable())?;
     match said.text() {
-        Some(text) => check_eq(text, "2 unreadable: expected a line of at most 1048576 bytes, found a longer one")?,
+        Some(text) => check_eq(
+            text,
+            "2 unreadable: expected a line of at most 1048576 bytes, found a longer one",
+        )?,
         None => return Err(Fail::new("nothing was said")),
     }
     check(line.is_empty())
