@@ -1,0 +1,4 @@
+pub mod Configured
+pub mod Meaning
+pub mod Same
+pub mod Few
