@@ -1,4 +1,6 @@
 // The interface between the processor and the backplane of a shelf, and its meaning.
+#![tactic(auto)]
+
 pub mod configuration;
 pub mod fits;
 pub mod interface;

@@ -1,4 +1,6 @@
 // Halves and bits of an image of bytes, the lowest first: one is read, or one is written and all else stays.
+#![tactic(auto)]
+
 ghost use Rattle.std.specs.Prelude.{◌≡◌, ℕ, ◌/◌, ◌%◌, ◌<◌, ◌&&◌, length, MatchBool, nat_lt, slice_index};
 ghost use Rattle.bits.specs.Image.{Made, Put, bit_at, byte_of, half_at, held, limit};
 

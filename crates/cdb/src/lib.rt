@@ -1,4 +1,6 @@
 // The fields of a command.
+#![tactic(auto)]
+
 ghost use Rattle.std.specs.Prelude.{◌≡◌};
 ghost use Rattle.cdb.specs.Heard.{heard};
 ghost use Rattle.history.specs.Cdb.{buffer_id, field, ill_formed, is_long, is_short, long_length, mode, opcode, sent, short_length, unit};

@@ -1,4 +1,6 @@
 // What a line was expected to hold, and what stands there.
+#![tactic(auto)]
+
 ghost use Rattle.std.specs.Prelude.{◌≡◌};
 ghost use Rattle.expected.specs.Texts.{keyword_text};
 ghost use Rattle.expected.specs.declared.Fault.TheVariants.{Memory, Unreadable as Unread};

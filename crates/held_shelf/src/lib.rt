@@ -1,4 +1,6 @@
 // The shelf that a script holds: that of its last `shelf` line.
+#![tactic(auto)]
+
 ghost use Rattle.std.specs.Prelude.{◌≡◌, IfOk};
 ghost use Rattle.std.specs.Option.{option_map};
 ghost use Rattle.outputs_text.specs.Outputs.{outputs_shown, seen};

@@ -1,5 +1,7 @@
 // The history of a shelf: what it answers and holds after any list of calls, as definitions, and the laws over its runs.
 // Each function here promises one law; calling it does nothing.
+#![tactic(auto)]
+
 ghost use Rattle.history.specs.Alters.{CheckAltersHost, RefusedAltersNothing};
 ghost use Rattle.history.specs.Hosts.{OrdersAgree};
 ghost use Rattle.history.specs.Kept.{PoweredKept, PresenceKept, RecordsFine, RecordsKept, SettingsKept, StatesKept};

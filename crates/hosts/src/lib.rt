@@ -1,4 +1,6 @@
 // What a shelf keeps for each host: its stored sense, and whether attention is pending.
+#![tactic(auto)]
+
 ghost use Rattle.std.specs.Prelude.{◌≡◌, ℕ, ◌<◌, Bool, true, if◌then◌else◌, nat_eq};
 ghost use Rattle.answers.specs.declared.sense.Sense.{Sense as Stored};
 ghost use Rattle.history.specs.Judgement.{on_host};

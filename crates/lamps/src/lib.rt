@@ -1,4 +1,6 @@
 // The lamp of a slot.
+#![tactic(auto)]
+
 ghost use Rattle.std.specs.Prelude.{◌≡◌};
 ghost use Rattle.lamps.specs.Lamps.{lamp_number, lamp_of};
 

@@ -1,4 +1,6 @@
 // The text that answers a call, and the text of a complaint, each behind the number of its line.
+#![tactic(auto)]
+
 ghost use Rattle.std.specs.Prelude.{◌≡◌, IfOk, Some, string_bytes};
 ghost use Rattle.line_fields.specs.Fields.{seen};
 ghost use Rattle.held_shelf.specs.Kept.{kept};

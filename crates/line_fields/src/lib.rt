@@ -1,2 +1,4 @@
 // The fields of a line, read word by word.
+#![tactic(auto)]
+
 pub mod reading;

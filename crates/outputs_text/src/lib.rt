@@ -1,4 +1,6 @@
 // The outputs of a backplane, and how they are printed.
+#![tactic(auto)]
+
 pub mod listed;
 pub mod rows;
 pub mod shown;

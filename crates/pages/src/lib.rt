@@ -1,4 +1,6 @@
 // The pages of a shelf, laid from their parts into a buffer of the caller.
+#![tactic(auto)]
+
 pub mod configuration;
 pub mod flags;
 pub mod heat;

@@ -1,4 +1,6 @@
 // What follows the word `part` on a line.
+#![tactic(auto)]
+
 ghost use Rattle.std.specs.Prelude.{◌≡◌};
 ghost use Rattle.words.specs.Words.{left};
 ghost use Rattle.expected.specs.declared.Expected.TheVariants as expected;

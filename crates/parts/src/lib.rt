@@ -1,3 +1,5 @@
 // Parts of a page: kinds with a width, laid as bytes and read back.
+#![tactic(auto)]
+
 pub mod kinds;
 pub mod part;

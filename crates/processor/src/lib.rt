@@ -1,4 +1,6 @@
 // The processor of a shelf.
+#![tactic(auto)]
+
 pub mod calls;
 pub mod commands;
 pub mod shelf;

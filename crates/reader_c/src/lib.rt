@@ -1,4 +1,6 @@
 // The reader's questions for C: numbers and slices of bytes in, a number out.
+#![tactic(auto)]
+
 ghost use Rattle.std.specs.Prelude.{◌≡◌, length};
 ghost use Rattle.reader.specs.Numbers.{run_numbered};
 ghost use Rattle.reader.specs.Reads.{read_part};

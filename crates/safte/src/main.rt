@@ -1,4 +1,6 @@
 // Runs scripts: calls as text in, their answers as text out, a line for each as soon as it is read.
+#![tactic(auto)]
+
 ghost use Rattle.std.specs.Prelude.{◌≡◌, IfOk};
 ghost use Rattle.script.specs.Texts.{readable, spoken};
 

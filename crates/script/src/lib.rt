@@ -1,4 +1,6 @@
 // Scripts: the text that answers each line.
+#![tactic(auto)]
+
 pub mod gathered;
 pub mod lines;
 pub mod response;

@@ -1,4 +1,6 @@
 // What follows the word `shelf` on a line.
+#![tactic(auto)]
+
 ghost use Rattle.std.specs.Prelude.{◌≡◌, ℕ, vec_items};
 ghost use Rattle.words.specs.Words.{left};
 ghost use Rattle.expected.specs.declared.Expected.TheVariants as expected;

@@ -1,4 +1,6 @@
 // The pages of a shelf, laid from its backplane and what it keeps.
+#![tactic(auto)]
+
 ghost use Rattle.std.specs.Prelude.{◌≡◌, ℕ, ◌<◌, ◌≤◌, List, length};
 ghost use Rattle.history.specs.Replies.{listed, page_bytes, slot_page, status_of};
 ghost use Rattle.pages.specs.Pages.{configuration_page, global_flags_page, insertions_page, status_page};

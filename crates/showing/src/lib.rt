@@ -1,4 +1,6 @@
 // The slots of a shelf, shown on its backplane.
+#![tactic(auto)]
+
 ghost use Rattle.std.specs.Prelude.{◌≡◌};
 ghost use Rattle.showing.specs.Shown.{of_slot, slot_number, slots_below};
 ghost use Rattle.startup.specs.Started.{made_where};

@@ -1,4 +1,6 @@
 // What every backplane is set to as its shelf is switched on, apart from the slots.
+#![tactic(auto)]
+
 ghost use Rattle.std.specs.Prelude.{◌≡◌, is_ok};
 ghost use Rattle.backplane.specs.Meaning.{«reads_well»};
 ghost use Rattle.startup.specs.Started.{fans_below, made_where, start_number, started, supplies_below, switched_on};

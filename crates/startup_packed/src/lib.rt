@@ -1,4 +1,6 @@
 // Switching on over a caller's image: what the image then holds, bit by bit, through code that knows the interface alone.
+#![tactic(auto)]
+
 ghost use Rattle.std.specs.Prelude.{◌≡◌, ℕ, is_ok};
 ghost use Rattle.bits.specs.Image.{bit};
 ghost use Rattle.packed.specs.Frame.{well_formed};

@@ -1,4 +1,6 @@
 // Examples of words that are read and written.
+#![tactic(auto)]
+
 ghost use Rattle.std.specs.Prelude.{◌≡◌, IfOk, string_bytes};
 ghost use Rattle.printed.specs.Shown.{quoted, spaced};
 

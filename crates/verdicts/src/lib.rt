@@ -1,4 +1,6 @@
 // What a command comes to.
+#![tactic(auto)]
+
 ghost use Rattle.std.specs.Prelude.{◌≡◌};
 ghost use Rattle.cdb.specs.Heard.{heard};
 ghost use Rattle.history.specs.Judgement.{is_page, judge, missed, obeying, opcode_verdict, unit_verdict};

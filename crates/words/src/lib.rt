@@ -1,4 +1,6 @@
 // The words of a line, one after another. Blanks part them, and a `#` starts a comment.
+#![tactic(auto)]
+
 ghost use Rattle.std.specs.Prelude.{◌≡◌, ℕ, true, false, List, ◌++◌, length, All};
 ghost use Rattle.std.specs.Option.{option_map};
 ghost use Rattle.words.specs.Words.{blank, first_line, within, front, pieces, words, left, taken, joined_by, IsWord};
