@@ -2,6 +2,6 @@ use Rattle.std.proofs.Common.{length, rules}
 use Rattle.part_runs.proofs.Over.{room}
 use Rattle.reader.proofs.layers.in_run.Goals as goal
 
-pub slice-bounds-bytes-end : goal.slice-bounds-bytes-end
-slice-bounds-bytes-end g c =
+pub slice_bounds-bytes-end : goal.slice_bounds-bytes-end
+slice_bounds-bytes-end g c =
     let r = room c.args.start c.args.number c.args.count c.size-width.result (length c.args.page.now) in search rules
