@@ -1,7 +1,7 @@
 -- The words of a line: how they are cut off, and that joined words are found again. Assumes nothing.
-use Rattle.std.proofs.Common.{◌≡◌, ℕ, suc, ◌+◌, ◌<◌, ◌≤◌, Bool, true, false, cond, not, ◌||◌, eqb, List, [], ◌∷◌, ◌++◌, length, get_or, take, drop, Some, None, All, Option, sym, refl, ap, ◌∙◌, arith, rules}
-use Rattle.std.proofs.lemmas.List.Elements.{All-append, All-weaker}
-use Rattle.std.proofs.lemmas.List.{at_drop_more, nil_from_length}
+use Rattle.std.proofs.Common.{◌≡◌, ℕ, ◌+◌, ◌<◌, ◌≤◌, Bool, true, false, cond, List, [], ◌∷◌, ◌++◌, length, get_or, take, drop, Some, None, All, sym, refl, ap, ◌∙◌, arith}
+use Rattle.std.proofs.lemmas.List.Elements.{All-nil, All-cons, All-head, All-tail, All-append, All-weaker}
+use Rattle.std.proofs.lemmas.List.{at_drop_more}
 use Rattle.std.proofs.lemmas.Bool.{cond-true, cond-false, not_from_true, not_from_false}
 use Rattle.std.proofs.lemmas.Bool.Decides.{nat_tests}
 use Rattle.words.specs.declared.Part.TheVariants.{Code, Gap, Word}
@@ -22,13 +22,16 @@ module _ (test : ℕ → Bool) where
   pub front-is : (cs ds : List ℕ) (n : ℕ) → n ≡ length (front test cs) → ds ≡ take n cs → ds ≡ front test cs
   front-is cs ds n e d = d ∙ ap (λ k. take k cs) e ∙ front-take cs
 
+  abbrev Passes : ℕ → Type 0
+  Passes c = test c ≡ true
+
   front-all : (cs : List ℕ) → All (λ c. test c ≡ true) cs → front test cs ≡ cs
   front-all [] h = refl
-  front-all (c ∷ cs) h = cond-true (test c) (c ∷ front test cs) [] h.0 ∙ ap (λ (l : List ℕ). c ∷ l) (front-all cs h.1)
+  front-all (c ∷ cs) h = cond-true (test c) (c ∷ front test cs) [] (All-head Passes c cs h) ∙ ap (λ (l : List ℕ). c ∷ l) (front-all cs (All-tail Passes c cs h))
 
   front-append : (cs rest : List ℕ) → All (λ c. test c ≡ true) cs → front test rest ≡ [] → front test (cs ++ rest) ≡ cs
   front-append [] rest h e = e
-  front-append (c ∷ cs) rest h e = cond-true (test c) (c ∷ front test (cs ++ rest)) [] h.0 ∙ ap (λ (l : List ℕ). c ∷ l) (front-append cs rest h.1 e)
+  front-append (c ∷ cs) rest h e = cond-true (test c) (c ∷ front test (cs ++ rest)) [] (All-head Passes c cs h) ∙ ap (λ (l : List ℕ). c ∷ l) (front-append cs rest (All-tail Passes c cs h) e)
 
   -- The steps of a count of the front.
   pub span_more : (text : List ℕ) (i : ℕ) → i < length text → true ≡ test (get_or text i 0) → i + length (front test (drop i text)) ≡ length (front test text) → i + 1 + length (front test (drop (i + 1) text)) ≡ length (front test text)
@@ -131,15 +134,21 @@ cut_none text rest word past h long =
     ap (λ (l : List ℕ). (None, pieces false l)) after ∙ sym (ap taken all)
 
 -- Joined words are found again.
+abbrev Bare : ℕ → Type 0
+Bare c = (blank c ≡ false) × (comment c ≡ false)
+
 abbrev Inner : List ℕ → Type 0
-Inner w = All (λ c. (blank c ≡ false) × (comment c ≡ false)) w
+Inner w = All Bare w
+
+abbrev IsCode : ℕ → Type 0
+IsCode c = within Code c ≡ true
 
 blank_not_comment : (b : ℕ) → blank b ≡ true → within Code b ≡ true
 blank_not_comment b e = grind (arith, nat_tests)
 
 on_through : (w rest : List ℕ) → Inner w → pieces true (w ++ rest) ≡ pieces true rest
 on_through [] rest h = refl
-on_through (c ∷ w) rest h = piece_on c (w ++ rest) h.0.0 ∙ on_through w rest h.1
+on_through (c ∷ w) rest h = piece_on c (w ++ rest) (All-head Bare c w h).0 ∙ on_through w rest (All-tail Bare c w h)
 
 word_bytes : (w : List ℕ) → Inner w → All (λ c. within Word c ≡ true) w
 word_bytes w h = All-weaker (λ c. (blank c ≡ false) × (comment c ≡ false)) (λ c. within Word c ≡ true) (λ c p. not_from_false (blank c) p.0) w h
@@ -149,7 +158,7 @@ code_bytes w h = All-weaker (λ c. (blank c ≡ false) × (comment c ≡ false))
 
 word_first : (w rest : List ℕ) → IsWord w → front (within Word) rest ≡ [] → pieces false (w ++ rest) ≡ w ∷ pieces true rest
 word_first [] rest h e = absurd (omega (arith, h.0))
-word_first (c ∷ w) rest h e = piece_new c (w ++ rest) h.1.0.0 ∙ (λ i. front-append (within Word) (c ∷ w) rest (word_bytes (c ∷ w) h.1) e i ∷ on_through w rest h.1.1 i)
+word_first (c ∷ w) rest h e = piece_new c (w ++ rest) (All-head Bare c w h.1).0 ∙ (λ i. front-append (within Word) (c ∷ w) rest (word_bytes (c ∷ w) h.1) e i ∷ on_through w rest (All-tail Bare c w h.1) i)
 
 module _ (b : ℕ) (is : blank b ≡ true) where
   ends : (ws : List (List ℕ)) → front (within Word) (joined_after b ws) ≡ []
@@ -158,19 +167,19 @@ module _ (b : ℕ) (is : blank b ≡ true) where
 
   found_after : (ws : List (List ℕ)) → All IsWord ws → pieces true (joined_after b ws) ≡ ws
   found_after [] h = refl
-  found_after (w ∷ ws) h = piece_gap true b (w ++ joined_after b ws) is ∙ word_first w (joined_after b ws) h.0 (ends ws) ∙ ap (λ (l : List (List ℕ)). w ∷ l) (found_after ws h.1)
+  found_after (w ∷ ws) h = piece_gap true b (w ++ joined_after b ws) is ∙ word_first w (joined_after b ws) (All-head IsWord w ws h) (ends ws) ∙ ap (λ (l : List (List ℕ)). w ∷ l) (found_after ws (All-tail IsWord w ws h))
 
   found : (ws : List (List ℕ)) → All IsWord ws → pieces false (joined_by b ws) ≡ ws
   found [] h = refl
-  found (w ∷ ws) h = word_first w (joined_after b ws) h.0 (ends ws) ∙ ap (λ (l : List (List ℕ)). w ∷ l) (found_after ws h.1)
+  found (w ∷ ws) h = word_first w (joined_after b ws) (All-head IsWord w ws h) (ends ws) ∙ ap (λ (l : List (List ℕ)). w ∷ l) (found_after ws (All-tail IsWord w ws h))
 
   code-after : (ws : List (List ℕ)) → All IsWord ws → All (λ c. within Code c ≡ true) (joined_after b ws)
-  code-after [] h = tt
-  code-after (w ∷ ws) h = (blank_not_comment b is, All-append (λ c. within Code c ≡ true) w (joined_after b ws) (code_bytes w h.0.1) (code-after ws h.1))
+  code-after [] h = All-nil IsCode
+  code-after (w ∷ ws) h = All-cons IsCode b (w ++ joined_after b ws) (blank_not_comment b is) (All-append IsCode w (joined_after b ws) (code_bytes w (All-head IsWord w ws h).1) (code-after ws (All-tail IsWord w ws h)))
 
   code-all : (ws : List (List ℕ)) → All IsWord ws → All (λ c. within Code c ≡ true) (joined_by b ws)
-  code-all [] h = tt
-  code-all (w ∷ ws) h = All-append (λ c. within Code c ≡ true) w (joined_after b ws) (code_bytes w h.0.1) (code-after ws h.1)
+  code-all [] h = All-nil IsCode
+  code-all (w ∷ ws) h = All-append IsCode w (joined_after b ws) (code_bytes w (All-head IsWord w ws h).1) (code-after ws (All-tail IsWord w ws h))
 
   pub words_back : (line : List ℕ) (ws : List (List ℕ)) → All IsWord ws → line ≡ joined_by b ws → words line ≡ ws
   words_back line ws h e = ap words e ∙ ap (pieces false) (front-all (within Code) (joined_by b ws) (code-all ws h)) ∙ found ws h

@@ -1,4 +1,4 @@
-use Rattle.std.proofs.Common.{◌≡◌, length, drop, sym, arith, rules}
+use Rattle.std.proofs.Common.{length, arith, rules}
 use Rattle.std.proofs.lemmas.List.{at_drop_all}
 use Rattle.words.specs.Words.{within, front}
 use Rattle.words.proofs.Pieces.{span_more, span-stop}
