@@ -1,5 +1,5 @@
 -- What is written of bytes. Assumes nothing.
-use Rattle.std.proofs.Common.{◌≡◌, ℕ, ◌+◌, ◌-◌, ◌/◌, ◌%◌, ◌<◌, ◌≤◌, Bool, true, false, cond, ltb, List, [], ◌∷◌, ◌++◌, length, get_or, take, drop, sym, refl, ap, ◌∙◌, append_assoc, append-nil, arith, rules}
+use Rattle.std.proofs.Common.{◌≡◌, ℕ, ◌+◌, ◌-◌, ◌/◌, ◌%◌, ◌<◌, ◌≤◌, true, false, ltb, List, [], ◌∷◌, ◌++◌, length, get_or, take, drop, sym, ap, ◌∙◌, append_assoc, append-nil, arith}
 use lib.Utf8.{encode}
 use Rattle.std.specs.Char.{digit_char}
 use Rattle.std.specs.List.{flat_map}
@@ -9,7 +9,7 @@ use Rattle.std.proofs.lemmas.Str.{encode_ascii}
 use Rattle.std.proofs.lemmas.Bool.Decides.{nat_tests}
 use Rattle.printed.specs.declared.Form.{Form}
 use Rattle.printed.specs.declared.Form.TheVariants.{Blank, Mark}
-use Rattle.printed.specs.Shown.{pair, safe, mark, formed, spaced, quoted}
+use Rattle.printed.specs.Shown.{pair, safe, formed, spaced, quoted}
 
 ascii_is : (x y : ℕ) → x ≡ y → x < 128 → encode x ≡ y ∷ []
 ascii_is x y e h = encode_ascii x h ∙ ap (λ (n : ℕ). n ∷ []) e

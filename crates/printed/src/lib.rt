@@ -24,7 +24,7 @@ fn letter(d: u8) -> char
 
 // Writes a byte as two hex digits, after `before`.
 fn write_hex<W: fmt::Write>(f: &mut fmt::Formatter<W>, before: &str, b: u8) -> fmt::Result
-    ensures { WritesOnOk write_str_gives f.old result (before.now ++ pair b) f.new }
+    ensures { WritesOnOk W.write_str_gives f.old result (before.now ++ pair b) f.new }
 {
     f.write_str(before)?;
     f.write_char(letter(b / 16))?;
@@ -46,7 +46,7 @@ fn is_safe(b: u8) -> bool
 }
 
 fn write_byte<W: fmt::Write>(f: &mut fmt::Formatter<W>, form: Form, b: u8) -> fmt::Result
-    ensures { WritesOnOk write_str_gives f.old result (formed form b) f.new }
+    ensures { WritesOnOk W.write_str_gives f.old result (formed form b) f.new }
 {
     match form {
         Form::Blank => write_hex(f, " ", b),
@@ -57,7 +57,7 @@ fn write_byte<W: fmt::Write>(f: &mut fmt::Formatter<W>, form: Form, b: u8) -> fm
 
 // Writes each byte in `form`.
 fn write_all<W: fmt::Write>(f: &mut fmt::Formatter<W>, form: Form, bytes: &[u8]) -> fmt::Result
-    ensures { WritesOnOk write_str_gives f.old result (flat_map (formed form) bytes.now) f.new }
+    ensures { WritesOnOk W.write_str_gives f.old result (flat_map (formed form) bytes.now) f.new }
 {
     for b in bytes {
         write_byte(f, form, *b)?;

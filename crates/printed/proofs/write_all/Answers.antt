@@ -18,8 +18,8 @@ loop-b-preserved g c plain =
     let done = flat_map (formed form) (take i bytes) in
     let byte = formed form (get_or bytes i 0) in
     let old = c.loop-b.invariant plain in
-    let new = has_written_append took f done c.loop-b.f byte c.write-byte.new.f old (c.in-ok-write-byte.ensures old.plain (refl {a = true})) in
-    has_written_of_eq took f (done ++ byte) (flat_map (formed form) (take (i + 1) bytes)) c.write-byte.new.f (formed_more form bytes i (search rules)) new
+    let new = has_written_append took f done c.loop-b.f byte c.write_byte.new.f old (c.in_ok-write_byte.ensures old.plain (refl {a = true})) in
+    has_written_of_eq took f (done ++ byte) (flat_map (formed form) (take (i + 1) bytes)) c.write_byte.new.f (formed_more form bytes i (search rules)) new
 
 pub returns : goal.returns
 returns g c plain ok =

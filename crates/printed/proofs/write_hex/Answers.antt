@@ -13,7 +13,7 @@ returns g c plain ok =
     let b = c.args.b in
     let x = c.letter.result in
     let y = c.letter-2.result in
-    let one = c.in-ok-write-str.ensures.writes plain (refl {a = true}) in
-    let two = has_written_append took f before c.write-str.new.self (encode x) c.write-char.new.self one (c.in-ok-write-char.ensures.writes one.plain (refl {a = true})) in
-    let three = has_written_append took f (before ++ encode x) c.write-char.new.self (encode y) c.write-char-2.new.self two (c.write-char-2.ensures.writes two.plain ok) in
-    has_written_of_eq took f ((before ++ encode x) ++ encode y) (before ++ pair b) c.write-char-2.new.self (pair_written before b x y c.letter.ensures.value c.letter.ensures.ascii c.letter-2.ensures.value c.letter-2.ensures.ascii) three
+    let one = c.in_ok-write_str.ensures.writes plain (refl {a = true}) in
+    let two = has_written_append took f before c.write_str.new.self (encode x) c.write_char.new.self one (c.in_ok-write_char.ensures.writes one.plain (refl {a = true})) in
+    let three = has_written_append took f (before ++ encode x) c.write_char.new.self (encode y) c.write_char-2.new.self two (c.write_char-2.ensures.writes two.plain ok) in
+    has_written_of_eq took f ((before ++ encode x) ++ encode y) (before ++ pair b) c.write_char-2.new.self (pair_written before b x y c.letter.ensures.value c.letter.ensures.ascii c.letter-2.ensures.value c.letter-2.ensures.ascii) three
