@@ -1,8 +1,9 @@
 -- Hex text: the step of the loop that reads it, and what reads. Assumes nothing.
-use Rattle.std.proofs.Common.{◌≡◌, ℕ, suc, ◌+◌, ◌-◌, ◌*◌, ◌/◌, ◌%◌, ◌<◌, ◌≤◌, true, not, ◌⊎◌, List, [], ◌∷◌, ◌++◌, map, length, get_or, drop, IfOk, Some, None, Ok, Err, All, Option, Result, sym, refl, ap, ◌∙◌, inl, inr, ⊎_elim, append_assoc, arith, rules, MatchResult}
+use Rattle.std.proofs.Common.{◌≡◌, ℕ, ◌+◌, ◌*◌, ◌/◌, ◌%◌, ◌<◌, true, not, ◌⊎◌, List, [], ◌∷◌, ◌++◌, map, length, get_or, drop, IfOk, Some, None, Ok, Err, All, Option, Result, sym, refl, ap, ◌∙◌, inl, inr, append_assoc, arith, MatchResult}
 use Rattle.std.specs.Char.{digit_char, to_ascii_lowercase}
 use Rattle.std.specs.List.{flat_map}
 use Rattle.std.proofs.lemmas.List.{drop_more}
+use Rattle.std.proofs.lemmas.List.Elements.{All-head, All-tail}
 use Rattle.std.proofs.lemmas.Bool.{cond-true}
 use Rattle.std.proofs.lemmas.Bool.Decides.{nat_tests}
 use Rattle.digits.specs.declared.hex.HexFault.{HexFault}
@@ -45,6 +46,9 @@ odd_none [] h = absurd (omega arith)
 odd_none (a ∷ []) h = refl
 odd_none (a ∷ b ∷ rest) h = ap (followed (byte_of a b)) (odd_none rest (omega arith)) ∙ followed_none (byte_of a b)
 
+abbrev IsByte : ℕ → Type 0
+IsByte b = b < 256
+
 -- A digit that is read of each number below 16.
 abbrev Digit : (ℕ → ℕ) → Type 0
 Digit digit = (d : ℕ) → d < 16 → digit_of (digit d) ≡ Some d
@@ -61,11 +65,11 @@ paired_back b h = let e : b / 16 * 16 + b % 16 ≡ b = omega arith in ap (λ (n 
 spelled_back : (digit : ℕ → ℕ) → Digit digit → (bs : List ℕ) → All (λ b. b < 256) bs → hex_read (spelled_by digit bs) ≡ Some bs
 spelled_back digit each [] h = refl
 spelled_back digit each (b ∷ bs) h =
-    let small : b < 256 = h.0 in
+    let small : b < 256 = All-head IsByte b bs h in
     let high = each (b / 16) (omega arith) in
     let low = each (b % 16) (omega arith) in
     let byte : byte_of (digit (b / 16)) (digit (b % 16)) ≡ Some b = ap (λ (o : Option ℕ). paired o (digit_of (digit (b % 16)))) high ∙ ap (paired (Some (b / 16))) low ∙ paired_back b small in
-    ap (λ (o : Option ℕ). followed o (hex_read (spelled_by digit bs))) byte ∙ ap (followed (Some b)) (spelled_back digit each bs h.1)
+    ap (λ (o : Option ℕ). followed o (hex_read (spelled_by digit bs))) byte ∙ ap (followed (Some b)) (spelled_back digit each bs (All-tail IsByte b bs h))
 
 pub read_back : (text bs : List ℕ) → All (λ b. b < 256) bs → (text ≡ spelled bs) ⊎ (text ≡ spelled_upper bs) → hex_read text ≡ Some bs
 read_back text bs h (inl e) = ap hex_read e ∙ spelled_back digit_char lower_digit bs h
@@ -109,11 +113,11 @@ pair_seen b rest h =
 
 unspaced_after : (bs : List ℕ) → All (λ b. b < 256) bs → unblanked (flat_map after_blank bs) ≡ spelled bs
 unspaced_after [] h = refl
-unspaced_after (b ∷ bs) h = pair_seen b (flat_map after_blank bs) h.0 ∙ ap (λ (l : List ℕ). digit_char (b / 16) ∷ digit_char (b % 16) ∷ l) (unspaced_after bs h.1)
+unspaced_after (b ∷ bs) h = pair_seen b (flat_map after_blank bs) (All-head IsByte b bs h) ∙ ap (λ (l : List ℕ). digit_char (b / 16) ∷ digit_char (b % 16) ∷ l) (unspaced_after bs (All-tail IsByte b bs h))
 
 unspaced : (bs : List ℕ) → All (λ b. b < 256) bs → 0 < length bs → unblanked (spaced bs) ≡ spelled bs
 unspaced [] h some = absurd (omega arith)
-unspaced (b ∷ bs) h some = pair_seen b (flat_map after_blank bs) h.0 ∙ ap (λ (l : List ℕ). digit_char (b / 16) ∷ digit_char (b % 16) ∷ l) (unspaced_after bs h.1)
+unspaced (b ∷ bs) h some = pair_seen b (flat_map after_blank bs) (All-head IsByte b bs h) ∙ ap (λ (l : List ℕ). digit_char (b / 16) ∷ digit_char (b % 16) ∷ l) (unspaced_after bs (All-tail IsByte b bs h))
 
 -- The laws of a reader, from what it reads.
 module _ {X : Type 0} (items : X → List ℕ) where

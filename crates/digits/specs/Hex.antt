@@ -1,5 +1,5 @@
 -- Bytes as text: two hex digits for each, the high one first.
-use Rattle.std.specs.Prelude.{◌≡◌, ℕ, ◌+◌, ◌-◌, ◌*◌, ◌/◌, ◌%◌, Bool, true, false, cond, List, [], ◌∷◌, Some, None, Option, ◌==◌, nat_lt}
+use Rattle.std.specs.Prelude.{◌≡◌, ℕ, ◌+◌, ◌-◌, ◌*◌, ◌/◌, ◌%◌, Bool, false, cond, List, [], ◌∷◌, Some, None, Option, ◌==◌, nat_lt}
 use Rattle.std.specs.Char.{digit_char}
 use Rattle.digits.specs.declared.hex.HexFault.{HexFault}
 use Rattle.digits.specs.declared.hex.HexFault.TheVariants.{Memory, NotHex}

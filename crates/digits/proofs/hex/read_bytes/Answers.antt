@@ -2,8 +2,8 @@ use Rattle.std.proofs.Common.{◌≡◌, Some, vec_items, subst, rules, MatchRes
 use Rattle.digits.specs.Hex.{hex_read, bytes_read, Failed}
 use Rattle.digits.proofs.hex.read_bytes.Goals as goal
 
-pub returns-in-default : goal.returns-in-default
-returns-in-default c =
+pub returns-in_default : goal.returns-in_default
+returns-in_default c =
     let word = c.args.word.now in
     let same : hex_read word ≡ bytes_read word = search rules in
-    subst (λ o. MatchResult c.read-hex.result (λ v. o ≡ Some (vec_items v)) (λ f. Failed f o)) same c.read-hex.ensures.reads
+    subst (λ o. MatchResult c.read_hex.result (λ v. o ≡ Some (vec_items v)) (λ f. Failed f o)) same c.read_hex.ensures.reads

@@ -17,8 +17,8 @@ returns-then-text-ne0 c =
 pub returns : goal.returns
 returns c =
     let text = c.args.text.now in
-    let r = c.read-pairs.result in
-    let told = c.read-pairs.ensures in
+    let r = c.read_pairs.result in
+    let told = c.read_pairs.ensures in
     record {
       reads = told;
       back = reads-back vec_items r text told;

@@ -1,4 +1,4 @@
-use Rattle.std.proofs.Common.{◌≡◌, cond, get_or, Some, None, sym, ap, ◌∙◌, rules}
+use Rattle.std.proofs.Common.{cond, get_or, Some, None, sym, ap, ◌∙◌, rules}
 use Rattle.std.proofs.lemmas.List.{at_drop_all}
 use Rattle.std.proofs.lemmas.Bool.{le-leb}
 use Rattle.digits.specs.Number.{number_after}
