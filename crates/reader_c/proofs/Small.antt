@@ -1,5 +1,5 @@
 -- A part that the reader hands out stands at place 200 of its page or before, and takes four bytes at most.
-use Rattle.std.proofs.Common.{◌≡◌, ℕ, ◌+◌, ◌*◌, ◌<◌, ◌≤◌, Bool, true, false, cond, ltb, leb, List, length, drop, is_some, Ok, Err, Option, Result, sym, refl, ap, ◌∙◌, subst, arith, le-ltb, leb-false, leb-true}
+use Rattle.std.proofs.Common.{◌≡◌, ℕ, ◌+◌, ◌*◌, ◌≤◌, Bool, true, false, cond, ltb, leb, List, length, drop, is_some, Ok, Err, Option, Result, sym, refl, ap, ◌∙◌, subst, arith, le-ltb, leb-false, leb-true}
 use Rattle.std.proofs.lemmas.List.{length-take}
 use Rattle.std.proofs.lemmas.Bool.{and_parts}
 use Rattle.enclosure.specs.Ranges.{in_range}
@@ -8,7 +8,6 @@ use Rattle.parts.specs.Laid.{fan_reads, supply_reads, slot_reads, count_reads, b
 use Rattle.part_runs.specs.Runs.{part_bytes}
 use Rattle.part_runs.proofs.Over.{room}
 use Rattle.reader.specs.declared.fault.Fault.{Fault}
-use Rattle.reader.specs.declared.fault.Fault.TheVariants.{Configuration, Short, Number, NoPart}
 use Rattle.reader.specs.declared.fault.Run.{Run}
 use Rattle.reader.specs.declared.fault.Run.TheVariants.{Fans, Supplies, Ids, Temperatures, Slots, Counts, Unknown}
 use Rattle.reader.specs.Reads.{Handed, and_then, counts_in, read_part, run_of, run_part}

@@ -10,7 +10,7 @@ returns c =
     let r = read_part c.args.config.now c.args.page.now (run_numbered c.args.run) c.args.number in
     let h = held c.args.config.now c.args.page.now (run_numbered c.args.run) c.args.number in
     record {
-      answer = roomy_answer _ r _ (omega arith) h c.safte-part.ensures.answer;
-      place = roomy_number place_of _ r _ _ (omega arith) h c.safte-part.ensures.place;
-      width = roomy_number width_of _ r _ _ (omega arith) h c.safte-part.ensures.width;
+      answer = roomy_answer _ r _ (omega arith) h c.safte_part.ensures.answer;
+      place = roomy_number place_of _ r _ _ (omega arith) h c.safte_part.ensures.place;
+      width = roomy_number width_of _ r _ _ (omega arith) h c.safte_part.ensures.width;
     }
