@@ -5,7 +5,6 @@ ghost use Rattle.backplane.specs.Configured.{configured};
 ghost use Rattle.backplane.specs.Meaning.{fits, put};
 ghost use Rattle.packed.specs.Frame.{reading as packed_reading};
 ghost use Rattle.packed.specs.Layout.{bit_set, fitted, fitted_with, made_over, value_of};
-ghost use Rattle.packed.specs.contracts.held.PackedBackplane.TheImpl.{ghosts};
 
 use crate::held::Packed;
 use backplane::configuration::Configuration;
@@ -24,7 +23,7 @@ impl<'a> Packed<'a> {
         image: &'a mut [u8],
     ) -> Packed<'a>
         ensures holds { value_of result.configuration result.frame result.image.now result.image.ghost_name ≡ value_of (configured counts lock alarm ids.now) (replicate 33 0) image.old image.entry.ghost_name }
-        ensures shows { ghosts.value result ≡ made_over (fitted_with counts lock alarm ids.now image.old) image.old image.entry.ghost_name }
+        ensures shows { ⟦<Packed<'a> as Backplane>⟧.value result ≡ made_over (fitted_with counts lock alarm ids.now image.old) image.old image.entry.ghost_name }
         ensures image { result.image.now ≡ image.old }
     {
         Packed {
@@ -36,8 +35,8 @@ impl<'a> Packed<'a> {
 
     // Nothing is done. The value of which the interface speaks is that of the fields, and frames read as the packed frame is defined.
     pub fn shows(&self)
-        ensures value { ghosts.value self.now ≡ value_of self.now.configuration self.now.frame self.now.image.now self.now.image.ghost_name }
-        ensures reading { ghosts.reading ≡ packed_reading }
+        ensures value { ⟦<Packed<'a> as Backplane>⟧.value self.now ≡ value_of self.now.configuration self.now.frame self.now.image.now self.now.image.ghost_name }
+        ensures reading { ⟦<Packed<'a> as Backplane>⟧.reading ≡ packed_reading }
     {}
 
     // Sets one output as the interface does. What fits is in the output's cell then, and every other bit of the image, in its 19 bytes and past them, is as it was.

@@ -1,6 +1,5 @@
 -- What a plain backplane means as it is made.
-use Rattle.std.proofs.Common.{◌≡◌, ℕ, zero, suc, ◌+◌, Bool, true, false, cond, ◌&&◌, eqb, ltb, List, length, get_or, replicate, sym, refl, ap, ◌∙◌}
-use Rattle.enclosure.specs.declared.conditions.Condition.TheVariants.{Works}
+use Rattle.std.proofs.Common.{◌≡◌, ℕ, ◌+◌, Bool, true, false, cond, eqb, ltb, List, get_or, replicate, refl, ap, ◌∙◌}
 use Rattle.enclosure.specs.declared.counts.PartCounts.{PartCounts}
 use Rattle.backplane.specs.Configured.{configured, kept}
 use Rattle.backplane.specs.Meaning.{condition_of, no_inputs, one}

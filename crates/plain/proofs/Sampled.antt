@@ -1,5 +1,5 @@
 -- A frame that is kept alters the inputs, and nothing else.
-use Rattle.std.proofs.Common.{◌≡◌, ℕ, Bool, true, false, cond, List, ◌++◌, length, Some, None, sym, refl, ap, ◌∙◌}
+use Rattle.std.proofs.Common.{◌≡◌, ℕ, true, cond, List, ◌++◌, length, Some, None, sym, refl, ap, ◌∙◌}
 use Rattle.backplane.specs.Configured.{kept}
 use Rattle.backplane.specs.Meaning.{sampled}
 use Rattle.backplane.specs.Same.{same_value}

@@ -1,5 +1,5 @@
 -- What a plain backplane means.
-use Rattle.std.specs.Prelude.{◌≡◌, ℕ, Bool, true, false, cond, List, replicate, slice_index, slice_index_or}
+use Rattle.std.specs.Prelude.{◌≡◌, ℕ, true, false, replicate, slice_index, slice_index_or}
 use Rattle.std.proofs.Math.Option.{none}
 use Rattle.backplane.specs.Configured.{kept}
 use Rattle.backplane.specs.Meaning.{Beside, Outputs, Value, no_inputs, one}

@@ -10,7 +10,7 @@ use backplane::places::Output;
 
 // Runs each fan at 4.
 pub fn start_fans<B: Backplane>(b: &mut B)
-    ensures { value b.new ≡ made_where (fans_below (value b.old).configuration.counts.fans) start_number (value b.old) }
+    ensures { B.Backplane.value b.new ≡ made_where (fans_below (B.Backplane.value b.old).configuration.counts.fans) start_number (B.Backplane.value b.old) }
 {
     for k in 0..b.configuration().counts.fans {
         let _ = b.set(Output::Speed(k as usize), 4);
@@ -19,7 +19,7 @@ pub fn start_fans<B: Backplane>(b: &mut B)
 
 // Switches each supply on.
 pub fn start_supplies<B: Backplane>(b: &mut B)
-    ensures { value b.new ≡ made_where (supplies_below (value b.old).configuration.counts.supplies) start_number (value b.old) }
+    ensures { B.Backplane.value b.new ≡ made_where (supplies_below (B.Backplane.value b.old).configuration.counts.supplies) start_number (B.Backplane.value b.old) }
 {
     for k in 0..b.configuration().counts.supplies {
         let _ = b.set(Output::Supply(k as usize), 1);
@@ -28,7 +28,7 @@ pub fn start_supplies<B: Backplane>(b: &mut B)
 
 // Runs each fan at 4, switches each supply on, the alarm off and the lock open. All else is as it was.
 pub fn start<B: Backplane>(b: &mut B)
-    ensures { value b.new ≡ started (value b.old) }
+    ensures { B.Backplane.value b.new ≡ started (B.Backplane.value b.old) }
 {
     start_fans(b);
     start_supplies(b);
@@ -38,8 +38,8 @@ pub fn start<B: Backplane>(b: &mut B)
 
 // Samples the frame and then starts; a frame that reads as nothing is refused, and all is as it was.
 pub fn switch_on<B: Backplane>(b: &mut B, frame: &[u8]) -> Result<(), Unread>
-    ensures says { is_ok result ≡ reads_well (reading (value b.old).configuration frame.now) }
-    ensures does { value b.new ≡ switched_on (value b.old) (reading (value b.old).configuration frame.now) }
+    ensures says { is_ok result ≡ reads_well (B.Backplane.reading (B.Backplane.value b.old).configuration frame.now) }
+    ensures does { B.Backplane.value b.new ≡ switched_on (B.Backplane.value b.old) (B.Backplane.reading (B.Backplane.value b.old).configuration frame.now) }
 {
     b.sample(frame)?;
     start(b);

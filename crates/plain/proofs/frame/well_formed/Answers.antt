@@ -1,11 +1,11 @@
 use Rattle.std.proofs.Common.{◌≡◌, ◌+◌, ◌-◌, true, eqb, length, take, drop, sym, ap, ◌∙◌, arith, rules}
 use Rattle.std.proofs.lemmas.List.{take_rest}
 use Rattle.backplane.specs.Configured.{at_most_each}
-use Rattle.plain.specs.Frame.{fans_at, flags_at, frame_length, supplies_at, temperatures_at}
+use Rattle.plain.specs.Frame.{fans_at, flags_at, frame_length}
 use Rattle.plain.proofs.frame.well_formed.Goals as goal
 
-pub returns-then-all-at-most-2 : goal.returns-then-all-at-most-2
-returns-then-all-at-most-2 c =
+pub returns-then-all_at_most-2 : goal.returns-then-all_at_most-2
+returns-then-all_at_most-2 c =
     let p = c.args.c in
     let n = p.counts in
     let frame = c.args.frame.now in
@@ -13,7 +13,7 @@ returns-then-all-at-most-2 c =
     let presence : at_most_each 1 (take (fans_at p) frame) ≡ true = search rules in
     let middle : n.fans + n.supplies ≡ n.slots + n.fans + n.supplies - n.slots = omega arith in
     let conditions : at_most_each 4 (take (n.fans + n.supplies) (drop (fans_at p) frame)) ≡ true =
-    ap (λ k. at_most_each 4 (take k (drop (fans_at p) frame))) middle ∙ sym c.if-all-at-most-2.ensures in
-    let flags : c.all-at-most-then-all-at-most-2.result ≡ at_most_each 1 (drop (flags_at p) frame) =
-    c.all-at-most-then-all-at-most-2.ensures ∙ ap (at_most_each 1) (take_rest frame (flags_at p)) in
+    ap (λ k. at_most_each 4 (take k (drop (fans_at p) frame))) middle ∙ sym c.if-all_at_most-2.ensures in
+    let flags : c.all_at_most-then-all_at_most-2.result ≡ at_most_each 1 (drop (flags_at p) frame) =
+    c.all_at_most-then-all_at_most-2.ensures ∙ ap (at_most_each 1) (take_rest frame (flags_at p)) in
     rw (whole, presence, conditions) flags
