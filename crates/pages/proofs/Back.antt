@@ -1,10 +1,9 @@
 -- From a page in which a run was laid the reader gets the very part, for every kind of part.
-use Rattle.std.proofs.Common.{◌≡◌, ℕ, ◌+◌, ◌*◌, ◌<◌, ◌≤◌, true, false, cond, ltb, leb, List, [], ◌∷◌, ◌++◌, length, get_or, take, drop, is_some, Some, None, Ok, Err, Option, Result, sym, refl, ap, ◌∙◌, append_assoc, arith}
+use Rattle.std.proofs.Common.{◌≡◌, ℕ, ◌+◌, ◌*◌, ◌<◌, ◌≤◌, true, List, ◌++◌, length, get_or, drop, is_some, Some, Ok, Option, Result, ap, ◌∙◌, arith}
 use Rattle.std.proofs.lemmas.List.{drop_at, drop-drop, length-append}
 use Rattle.std.proofs.lemmas.Bool.{le-leb, le-ltb, lt-leb}
 use Rattle.std.specs.List.{flat_map}
 use Rattle.enclosure.specs.declared.counts.PartCounts.{PartCounts}
-use Rattle.parts.specs.Laid.{byte_laid, byte_reads, count_laid, count_reads, fan_laid, fan_reads, slot_laid, slot_reads, supply_laid, supply_reads}
 use Rattle.part_runs.specs.Runs.{part_bytes}
 use Rattle.part_runs.proofs.Over.{joined_at, joined_length}
 use Rattle.reader.specs.Reads.{Handed, and_then, counts_of, read_part, run_of, run_part}

@@ -1,5 +1,5 @@
 -- Flags as bits of a number.
-use Rattle.std.proofs.Common.{◌≡◌, ℕ, zero, suc, ◌+◌, ◌*◌, ◌%◌, ◌^◌, ◌<◌, Bool, true, false, cond, ◌||◌, List, sym, refl, ap, ◌∙◌, one-mul, pow-suc, add-one, arith, shl_exact}
+use Rattle.std.proofs.Common.{◌≡◌, ℕ, zero, suc, ◌+◌, ◌*◌, ◌%◌, ◌^◌, ◌<◌, Bool, true, false, cond, ◌||◌, List, sym, ap, one-mul, pow-suc, add-one, arith, shl_exact}
 use mathlib.Core.Bool.{or-true, or_assoc}
 use Rattle.pages.specs.Heat.{flag, flag_bits, one_set}
 

@@ -1,4 +1,4 @@
-use Rattle.std.proofs.Common.{◌≡◌, ℕ, ◌+◌, true, cond, ◌||◌, [], ◌∷◌, sym, ap, ◌∙◌, inl, inr, arith}
+use Rattle.std.proofs.Common.{◌≡◌, ℕ, ◌+◌, true, cond, ◌||◌, ap, ◌∙◌, inl, inr, arith}
 use mathlib.Core.Bool.{or-true}
 use Rattle.pages.specs.Heat.{flag_bits, one_set}
 use Rattle.pages.proofs.HeatBits.{lit, fifteen}
@@ -16,7 +16,7 @@ alert c =
 pub returns-then-second-ne0 : goal.returns-then-second-ne0
 returns-then-second-ne0 c =
     let t = ap {B = ℕ} (λ b. cond b 128 0) (alert c) in
-    let f = c.flag-bits-first.ensures.bits in
-    let s = c.flag-bits-second.ensures.bits in
-    let e : c.flag-bits-first.result + 128 ≡ flag_bits c.args.over_temperature.now 8 7 + cond (one_set c.args.over_temperature.now 0 15) 128 0 = omega arith in
+    let f = c.flag_bits-first.ensures.bits in
+    let s = c.flag_bits-second.ensures.bits in
+    let e : c.flag_bits-first.result + 128 ≡ flag_bits c.args.over_temperature.now 8 7 + cond (one_set c.args.over_temperature.now 0 15) 128 0 = omega arith in
     cc

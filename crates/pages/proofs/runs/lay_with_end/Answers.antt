@@ -13,13 +13,13 @@ returns-then-not-fit g c =
     let u = unfitted (flat_map g.P.Part.laid c.args.parts.now ++ flat_map byte_laid c.args.end.now) old f in
     record { len = u.0; page = u.1 }
 
-pub put-run-at-requires : goal.put-run-at-requires
-put-run-at-requires g c =
+pub put_run-at-requires : goal.put_run-at-requires
+put_run-at-requires g c =
     let f = with_end_fits g.P.Part.laid g.P.Part.width c.size.result g.met.P.Part.wide c.size.ensures c.args.parts.now c.args.end.now (length c.args.buffer.now) c.if-not-fit.ensures in
     omega arith
 
-pub put-run-requires : goal.put-run-requires
-put-run-requires g c =
+pub put_run-requires : goal.put_run-requires
+put_run-requires g c =
     let f = with_end_fits g.P.Part.laid g.P.Part.width c.size.result g.met.P.Part.wide c.size.ensures c.args.parts.now c.args.end.now (length c.args.buffer.now) c.if-not-fit.ensures in
     omega arith
 
@@ -29,7 +29,7 @@ returns g c =
     let end = flat_map byte_laid c.args.end.now in
     let old = c.args.buffer.now in
     let f = with_end_fits g.P.Part.laid g.P.Part.width c.size.result g.met.P.Part.wide c.size.ensures c.args.parts.now c.args.end.now (length old) c.if-not-fit.ensures in
-    let one = next run (none old) c.put-run-at.ensures.place c.put-run-at.ensures.page in
-    let two = next end one c.put-run.ensures.place c.put-run.ensures.page in
-    let u = fitted (run ++ end) old c.put-run.new.buffer c.put-run.result two (omega (arith, length-append run end)) in
+    let one = next run (none old) c.put_run-at.ensures.place c.put_run-at.ensures.page in
+    let two = next end one c.put_run.ensures.place c.put_run.ensures.page in
+    let u = fitted (run ++ end) old c.put_run.new.buffer c.put_run.result two (omega (arith, length-append run end)) in
     record { len = u.0; page = u.1 }

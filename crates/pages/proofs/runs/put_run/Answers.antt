@@ -8,9 +8,9 @@ returns g c =
     let n = length c.args.parts.now * g.P.Part.width in
     let j = joined_length g.P.Part.laid g.P.Part.width g.met.P.Part.wide c.args.parts.now in
     let t : leb (c.args.at + n) (length c.args.buffer.now) ≡ true = le-leb _ _ (omega arith) in
-    let place = c.lay-run.ensures.place in
-    let page = c.lay-run.ensures.page in
+    let place = c.lay_run.ensures.place in
+    let page = c.lay_run.ensures.page in
     record {
-      place = c.unwrap-or.ensures ∙ ap (λ o. unwrap_or o c.args.at) (rw t at place) ∙ ap (λ k. c.args.at + k) (sym j);
+      place = c.unwrap_or.ensures ∙ ap (λ o. unwrap_or o c.args.at) (rw t at place) ∙ ap (λ k. c.args.at + k) (sym j);
       page = rw t at page;
     }

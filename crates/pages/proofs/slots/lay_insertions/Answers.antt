@@ -12,5 +12,5 @@ returns c =
     let xs = c.args.counts.now in
     let old = c.args.buffer.now in
     let j = joined_length count_laid 2 (λ x. refl) xs in
-    let one = one_run (insertions_page xs) old c.lay-run.new.page (length xs * 2) c.lay-run.result j c.lay-run.ensures.place c.lay-run.ensures.page in
-    record { len = one.0; page = one.1; size = insertions_long xs; back = insertions_back xs old c.lay-run.new.page one.1 }
+    let one = one_run (insertions_page xs) old c.lay_run.new.page (length xs * 2) c.lay_run.result j c.lay_run.ensures.place c.lay_run.ensures.page in
+    record { len = one.0; page = one.1; size = insertions_long xs; back = insertions_back xs old c.lay_run.new.page one.1 }
