@@ -1,10 +1,10 @@
 -- What holds of each shelf that a list of calls leads to: one induction for every law.
-use Rattle.std.proofs.Common.{◌≡◌, ℕ, Bool, true, false, cond, eqb, List, [], ◌∷◌, length, Some, None, Option, refl, subst}
+use Rattle.std.proofs.Common.{◌≡◌, ℕ, false, eqb, List, [], ◌∷◌, length, Some, None, Option, refl, subst}
 use Rattle.std.proofs.lemmas.Bool.{cond_both}
 use Rattle.answers.specs.declared.refusal.Refusal.{Refusal}
 use Rattle.answers.specs.declared.refusal.Refusal.TheVariants as refusal
 use Rattle.backplane.specs.Meaning.{Inputs}
-use Rattle.history.specs.Shelf.{Answer, done, refused, Call, power_on, sample, reset, command, Command, Shelf, State, unpowered, powered, World}
+use Rattle.history.specs.Shelf.{done, refused, Call, power_on, sample, reset, command, Command, Shelf, State, unpowered, powered, World}
 use Rattle.history.specs.Steps.{Entry, History, Outcome, commanded, entry, fed, history, new, powered_by, replied, restarted, run, sampled, sampled_by, started, step}
 
 -- each accepted power-on makes it hold, each other call keeps it

@@ -4,12 +4,12 @@ use Rattle.std.proofs.lemmas.Bool.{both_ways, cond_both, cond-false, ne_eqb}
 use Rattle.answers.specs.declared.refusal.Refusal.{Refusal}
 use Rattle.answers.specs.declared.status.Status.TheVariants.{Good, CheckCondition}
 use Rattle.backplane.specs.Meaning.{Inputs}
-use Rattle.history.specs.Shelf.{Answer, done, ended, refused, Call, power_on, sample, reset, command, Command, Host, Part, Rest, Shelf, State, unpowered, powered, Value, World}
+use Rattle.history.specs.Shelf.{Answer, done, ended, refused, power_on, sample, reset, command, Command, Host, Part, Rest, Shelf, State, unpowered, powered, Value, World}
 use Rattle.history.specs.Orders.{acted, acted_rest}
 use Rattle.history.specs.Judgement.{Verdict, refuse, miss, miss_inquiry, miss_sense, attend, pass, reject, inquire, show_sense, show_page, obey, on_host, order_in}
 use Rattle.history.specs.Replies.{reply}
-use Rattle.history.specs.Steps.{Outcome, commanded, powered_by, sampled_by, step, verdict}
-use Rattle.history.specs.Alters.{CheckAltersHost, Checked, RefusedAltersNothing, SameButHost}
+use Rattle.history.specs.Steps.{Outcome, commanded, powered_by, sampled_by, verdict}
+use Rattle.history.specs.Alters.{CheckAltersHost, RefusedAltersNothing}
 use Rattle.history.proofs.Effects.{shelf_path}
 
 abbrev is_refused : Answer → Bool

@@ -1,15 +1,14 @@
 -- What a command does to parts and to the rest is what its accepted order does.
-use Rattle.std.proofs.Common.{◌≡◌, ℕ, Bool, true, false, cond, ◌&&◌, eqb, List, [], take, Some, None, Option, sym, refl, ap, ◌∙◌}
-use Rattle.std.proofs.lemmas.Bool.{eq-eqb}
+use Rattle.std.proofs.Common.{◌≡◌, ℕ, Bool, true, false, cond, ◌&&◌, eqb, [], take, Some, None, Option, refl, ap}
 use Rattle.backplane.specs.declared.configuration.Configuration.{Configuration}
 use Rattle.history.specs.Shelf.{Answer, Command, Host, Part, Rest, Shelf, State, unpowered, powered, Value, World}
 use Rattle.history.specs.Cdb.{opcode, sent, long_length}
 use Rattle.history.specs.Orders.{Order}
 use Rattle.history.specs.Judgement.{Verdict, order_in}
 use Rattle.history.specs.Replies.{reply}
-use Rattle.history.specs.Steps.{commanded, replied, verdict}
+use Rattle.history.specs.Steps.{replied, verdict}
 use Rattle.history.specs.Log.{order_bytes}
-use Rattle.history.proofs.Judged.{Judged, Ordered, Writes, attends, inquires, judged, misses, misses_inquiry, misses_sense, obeys, passes, refuses, rejects, shows_page, shows_sense, writes_nothing}
+use Rattle.history.proofs.Judged.{Judged, Ordered, attends, inquires, judged, misses, misses_inquiry, misses_sense, obeys, passes, refuses, rejects, shows_page, shows_sense, writes_nothing}
 
 -- no order, and no accepted order's bytes; or an order, and its bytes are the accepted ones
 pub data Effect (f : Configuration) (c : Command) (a : Answer) : Option Order → Type 0 where

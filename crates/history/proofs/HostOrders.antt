@@ -1,20 +1,27 @@
 -- Each host hears what it would hear alone, and each part ends as it would from its own host's commands.
-use Rattle.std.proofs.Common.{◌≡◌, ℕ, Bool, true, false, cond, eqb, ◌⊎◌, List, [], ◌∷◌, length, Some, None, All, filter, Option, sym, refl, ap, ◌∙◌, subst, ap₂, inl, inr, length-take}
+use Rattle.std.proofs.Common.{◌≡◌, ℕ, Bool, true, false, cond, eqb, ◌⊎◌, List, [], ◌∷◌, All, sym, refl, ap, ◌∙◌, subst, ap₂, inl, inr, length-take}
 use Rattle.std.proofs.lemmas.Bool.{both_ways, cases_Bool, cond-false, eq-eqb, eqb-false, eqb-true, ne_eqb}
+use Rattle.std.proofs.lemmas.List.Elements.{All-cons, All-head, All-nil, All-tail}
 use Rattle.std.specs.List.{AllZip}
 use Rattle.answers.specs.declared.refusal.Refusal.TheVariants as refusal
-use Rattle.backplane.specs.declared.configuration.Configuration.{Configuration}
-use Rattle.history.specs.Shelf.{Answer, refused, command, Command, Host, Part, Rest, Shelf, State, unpowered, powered, Value, World}
+use Rattle.history.specs.Shelf.{Answer, refused, Command, Host, Part, Rest, Shelf, unpowered, powered, Value, World}
 use Rattle.history.specs.Cdb.{buffer_id, opcode}
 use Rattle.history.specs.Orders.{acted, acted_rest}
 use Rattle.history.specs.Judgement.{Verdict, judge, on_host, order_in}
 use Rattle.history.specs.Replies.{reply}
-use Rattle.history.specs.Steps.{commanded, replied, step, verdict}
-use Rattle.history.specs.Hosts.{Alike, AlikeBytes, Apart, Only, OrdersAgree, Said, SameOrders, SameResults, after, byte_part, bytes, heading, heard_by, is_global, names, of_host, said_by}
+use Rattle.history.specs.Steps.{commanded, replied, verdict}
+use Rattle.history.specs.Hosts.{Alike, Apart, Only, OrdersAgree, Said, SameOrders, SameResults, after, byte_part, heard_by, is_global, names, of_host, said_by}
 use Rattle.history.proofs.Judged.{Judged, attends, inquires, judged, misses, misses_inquiry, misses_sense, obeys, passes, refuses, rejects, shows_page, shows_sense, writes_nothing}
 use Rattle.history.proofs.Effects.{shelf_path}
 use Rattle.history.proofs.PageBytes.{cut-byte, page-length}
 use Rattle.history.proofs.Quiet.{quiet, rest_kept}
+
+-- a command that names the part is the host's
+abbrev Its-host : World → ℕ → Part → Command → Type 0
+Its-host w h p c = names w.configuration c p ≡ true → c.host ≡ h
+
+abbrev Not-global : Command → Type 0
+Not-global c = is_global c ≡ false
 
 -- the shelf after commands
 abbrev end_of : World → Shelf → List Command → Shelf
@@ -120,25 +127,25 @@ module _ (w : World) (h : ℕ) (all : List Command) where
       (cond b (said c (replied w s c) ∷ heard_by h (said_by w (powered (commanded w s c)) cs)) (heard_by h (said_by w (powered (commanded w s c)) cs)))
       (said_by w (powered t) (cond b (c ∷ of_host h cs) (of_host h cs)))
   solo-cases s t c cs o g a more true e = let k = eqb-true _ _ e in (own-answer s t c k a, more (commanded w t c) (own-step s t c k a))
-  solo-cases s t c cs o g a more false e = more t (other_step s t c (eqb-false _ _ e) g.0 (λ p i. (o p i).0) a)
+  solo-cases s t c cs o g a more false e = more t (other_step s t c (eqb-false _ _ e) (All-head Not-global c cs g) (λ p i. All-head (Its-host w h p) c cs (o p i)) a)
 
   solo : (cs : List Command) (s t : Shelf) → Covers cs → Plain cs → Agree s t →
       AllZip (Alike w h all) (heard_by h (said_by w (powered s) cs)) (said_by w (powered t) (of_host h cs))
   solo [] s t o g a = tt
   solo (c ∷ cs) s t o g a =
-      solo-cases s t c cs o g a (λ u b. solo cs (commanded w s c) u (λ p i. (o p i).1) g.1 b) (eqb c.host h) refl
+      solo-cases s t c cs o g a (λ u b. solo cs (commanded w s c) u (λ p i. All-tail (Its-host w h p) c cs (o p i)) (All-tail Not-global c cs g) b) (eqb c.host h) refl
 
   end-cases : (s t : Shelf) (c : Command) (cs : List Command) → Covers (c ∷ cs) → Plain (c ∷ cs) → Agree s t →
       ((u : Shelf) → Agree (commanded w s c) u → Agree (end_of w (commanded w s c) cs) (end_of w u (of_host h cs))) →
       (b : Bool) → eqb c.host h ≡ b →
       Agree (end_of w (commanded w s c) cs) (end_of w t (cond b (c ∷ of_host h cs) (of_host h cs)))
   end-cases s t c cs o g a more true e = more (commanded w t c) (own-step s t c (eqb-true _ _ e) a)
-  end-cases s t c cs o g a more false e = more t (other_step s t c (eqb-false _ _ e) g.0 (λ p i. (o p i).0) a)
+  end-cases s t c cs o g a more false e = more t (other_step s t c (eqb-false _ _ e) (All-head Not-global c cs g) (λ p i. All-head (Its-host w h p) c cs (o p i)) a)
 
   end : (cs : List Command) (s t : Shelf) → Covers cs → Plain cs → Agree s t → Agree (end_of w s cs) (end_of w t (of_host h cs))
   end [] s t o g a = a
   end (c ∷ cs) s t o g a =
-      end-cases s t c cs o g a (λ u b. end cs (commanded w s c) u (λ p i. (o p i).1) g.1 b) (eqb c.host h) refl
+      end-cases s t c cs o g a (λ u b. end cs (commanded w s c) u (λ p i. All-tail (Its-host w h p) c cs (o p i)) (All-tail Not-global c cs g) b) (eqb c.host h) refl
 
   -- an unpowered shelf refuses every command
   unpowered-cases : (c : Command) (cs : List Command) → AllZip (Alike w h all) (heard_by h (said_by w unpowered cs)) (said_by w unpowered (of_host h cs)) → (b : Bool)
@@ -158,21 +165,28 @@ unpowered_ends w (c ∷ cs) = unpowered_ends w cs
 
 -- the host that names a part, if any does
 module _ (w : World) (p : Part) (all : List Command) where
+  abbrev Owned : Command → Type 0
+  Owned c = names w.configuration c p ≡ true → Only w c.host p all
+
+  abbrev Unnamed : Command → Type 0
+  Unnamed c = names w.configuration c p ≡ false
+
   owner-in : (cs : List Command) → All (λ c. names w.configuration c p ≡ true → Only w c.host p all) cs →
       ((h : ℕ) × Only w h p all) ⊎ All (λ c. names w.configuration c p ≡ false) cs
-  owner-in [] a = inr tt
-  owner-in (c ∷ cs) a = go (cases_Bool (names w.configuration c p)) (owner-in cs a.1)
+  owner-in [] a = inr (All-nil Unnamed)
+  owner-in (c ∷ cs) a = go (cases_Bool (names w.configuration c p)) (owner-in cs (All-tail Owned c cs a))
     where
       go : (names w.configuration c p ≡ true) ⊎ (names w.configuration c p ≡ false) →
           ((h : ℕ) × Only w h p all) ⊎ All (λ d. names w.configuration d p ≡ false) cs →
-          ((h : ℕ) × Only w h p all) ⊎ ((names w.configuration c p ≡ false) × All (λ d. names w.configuration d p ≡ false) cs)
-      go (inl y) r = inl (c.host, a.0 y)
+          ((h : ℕ) × Only w h p all) ⊎ All (λ d. names w.configuration d p ≡ false) (c ∷ cs)
+      go (inl y) r = inl (c.host, All-head Owned c cs a y)
       go (inr z) (inl h) = inl h
-      go (inr z) (inr n) = inr (z, n)
+      go (inr z) (inr n) = inr (All-cons Unnamed c cs z n)
 
   none_only : (cs : List Command) → All (λ c. names w.configuration c p ≡ false) cs → Only w 0 p cs
-  none_only [] a = tt
-  none_only (c ∷ cs) a = ((λ y. absurd (both_ways (names w.configuration c p) a.0 y)), none_only cs a.1)
+  none_only [] a = All-nil (Its-host w 0 p)
+  none_only (c ∷ cs) a =
+      All-cons (Its-host w 0 p) c cs (λ y. absurd (both_ways (names w.configuration c p) (All-head Unnamed c cs a) y)) (none_only cs (All-tail Unnamed c cs a))
 
 owner : (w : World) (p : Part) (cs : List Command) → All (λ c. names w.configuration c p ≡ true → Only w c.host p cs) cs → (h : ℕ) × Only w h p cs
 owner w p cs a = elim (owner-in w p cs cs a) [ inl h ↦ h | inr n ↦ (0, none_only w p cs cs n) ]
@@ -180,27 +194,27 @@ owner w p cs a = elim (owner-in w p cs cs a) [ inl h ↦ h | inr n ↦ (0, none_
 -- what holds of each command holds of each host's, and the other way round
 module _ (P : Command → Type 0) where
   all-kept : (h : ℕ) (cs : List Command) → All P cs → All P (of_host h cs)
-  all-kept h [] a = tt
-  all-kept h (c ∷ cs) a = go (eqb c.host h) (all-kept h cs a.1)
+  all-kept h [] a = All-nil P
+  all-kept h (c ∷ cs) a = go (eqb c.host h) (all-kept h cs (All-tail P c cs a))
     where
       go : (b : Bool) → All P (of_host h cs) → All P (cond b (c ∷ of_host h cs) (of_host h cs))
-      go true r = (a.0, r)
+      go true r = All-cons P c (of_host h cs) (All-head P c cs a) r
       go false r = r
 
   all_tail : (b : Bool) (c : Command) (cs : List Command) → All P (cond b (c ∷ cs) cs) → All P cs
-  all_tail true c cs a = a.1
+  all_tail true c cs a = All-tail P c cs a
   all_tail false c cs a = a
 
   all_head : (b : Bool) (c : Command) (cs : List Command) → b ≡ true → All P (cond b (c ∷ cs) cs) → P c
-  all_head true c cs e a = a.0
+  all_head true c cs e a = All-head P c cs a
   all_head false c cs e a = absurd (both_ways false refl e)
 
   all-by-hosts : (cs : List Command) → ((h : ℕ) → All P (of_host h cs)) → All P cs
-  all-by-hosts [] a = tt
-  all-by-hosts (c ∷ cs) a = (
-    all_head (eqb c.host c.host) c (of_host c.host cs) (eq-eqb _ _ refl) (a c.host),
-    all-by-hosts cs (λ h. all_tail (eqb c.host h) c (of_host h cs) (a h)),
-  )
+  all-by-hosts [] a = All-nil P
+  all-by-hosts (c ∷ cs) a =
+      All-cons P c cs
+      (all_head (eqb c.host c.host) c (of_host c.host cs) (eq-eqb _ _ refl) (a c.host))
+      (all-by-hosts cs (λ h. all_tail (eqb c.host h) c (of_host h cs) (a h)))
 
   carried : (cs ds : List Command) → SameOrders cs ds → All P cs → All P ds
   carried cs ds e a = all-by-hosts ds (λ h. subst (All P) (e h) (all-kept h cs a))

@@ -1,12 +1,12 @@
 -- What each verdict tells of the command that it came to. Laws about commands go by these cases.
-use Rattle.std.proofs.Common.{◌≡◌, ℕ, ◌+◌, ◌*◌, ◌%◌, ◌<◌, ◌≤◌, Bool, true, false, cond, not, ◌&&◌, ◌||◌, eqb, ltb, List, [], length, get_or, take, drop, IfSome, Some, None, Option, sym, refl, arith}
+use Rattle.std.proofs.Common.{◌≡◌, ℕ, ◌+◌, ◌*◌, ◌%◌, ◌<◌, Bool, true, false, ◌&&◌, ◌||◌, eqb, ltb, List, length, get_or, take, drop, IfSome, Some, None, Option, refl, arith}
 use Rattle.std.proofs.lemmas.Bool.{and_parts, cond_both, eqb-true, ltb-false, ltb-true}
 use Rattle.answers.specs.declared.refusal.Refusal.{Refusal}
 use Rattle.answers.specs.declared.sense.Sense.{Sense}
 use Rattle.backplane.specs.declared.configuration.Configuration.{Configuration}
 use Rattle.history.specs.Shelf.{Command}
 use Rattle.history.specs.Cdb.{buffer_id, ill_formed, long_length, mode, opcode, sent, short_length, unit}
-use Rattle.history.specs.Orders.{Operation, Order, triples, operate, speed, switch, global, fan_speed, global_flags, operating, operation_of, order_of, slot_operation, slot_status, sound_below, supply_switch}
+use Rattle.history.specs.Orders.{Operation, Order, triples, operate, speed, switch, global, operating, operation_of, order_of, sound_below}
 use Rattle.history.specs.Judgement.{Verdict, refuse, miss, miss_inquiry, miss_sense, attend, pass, reject, inquire, show_sense, show_page, obey, is_page, judge, missed, obeying, opcode_verdict, read_verdict, unit_verdict, write_verdict}
 
 -- what an order tells of the bytes that it was read from

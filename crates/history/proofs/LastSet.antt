@@ -1,9 +1,10 @@
 -- Something of a shelf that entries of the log set, and others may move, is what the last that sets it made it.
 use Rattle.std.proofs.Common.{◌≡◌, ℕ, List, [], ◌∷◌, ◌++◌, Some, None, Option, unwrap_or, sym, refl, ap, ◌∙◌, subst}
+use Rattle.std.proofs.lemmas.List.Elements.{All-cons, All-nil}
 use Rattle.std.specs.Option.{option_map}
 use Rattle.answers.specs.declared.refusal.Refusal.{Refusal}
 use Rattle.backplane.specs.Meaning.{Inputs}
-use Rattle.history.specs.Shelf.{Answer, done, refused, Call, power_on, sample, reset, command, Command, Shelf, powered, World}
+use Rattle.history.specs.Shelf.{done, refused, Call, power_on, sample, reset, command, Command, Shelf, powered, World}
 use Rattle.history.specs.Steps.{Entry, commanded, entry, history, replied, restarted, sampled, started}
 use Rattle.history.specs.Log.{LastSet, last_frame, order_bytes, sets}
 use Rattle.history.specs.Kept.{PresenceLastSeen}
@@ -34,7 +35,7 @@ module _ (X : Type 0) (w : World) (first : Inputs → X) (ordered : List ℕ →
 
   fresh : (e : Entry) (log : List Entry) (x : X) → set-by e ≡ Some x → Set (e ∷ log) x
   fresh e log x s =
-      record { later = []; last = e; earlier = log; said = x; splits = refl; set_there = s; none_since = tt; is = sym (a.start x (e ∷ log)) }
+      record { later = []; last = e; earlier = log; said = x; splits = refl; set_there = s; none_since = All-nil (λ (d : Entry). set-by d ≡ None); is = sym (a.start x (e ∷ log)) }
 
   older : (e : Entry) (log : List Entry) (x : X) → set-by e ≡ None → Set log x → Set (e ∷ log) (a.moves e log x)
   older e log x s l =
@@ -45,7 +46,7 @@ module _ (X : Type 0) (w : World) (first : Inputs → X) (ordered : List ℕ →
         said = l.said;
         splits = ap (λ (xs : List Entry). e ∷ xs) l.splits;
         set_there = l.set_there;
-        none_since = (s, l.none_since);
+        none_since = All-cons (λ (d : Entry). set-by d ≡ None) e l.later s l.none_since;
         is =
             ap (a.moves e log) l.is
             ∙ ap (λ (xs : List Entry). a.moves e xs (since l.said l.later (l.last ∷ l.earlier))) l.splits

@@ -1,14 +1,12 @@
 -- The physical state of a slot is what its events make of its power-on state.
-use Rattle.std.proofs.Common.{◌≡◌, ℕ, ◌%◌, Bool, true, false, cond, ◌&&◌, eqb, List, [], ◌∷◌, ◌++◌, get_or, Some, None, Option, sym, refl, ap, ◌∙◌}
+use Rattle.std.proofs.Common.{◌≡◌, ℕ, Bool, true, false, cond, eqb, List, get_or, Some, None, Option, refl}
 use Rattle.std.proofs.lemmas.Bool.{cond_both}
 use Rattle.answers.specs.declared.refusal.Refusal.{Refusal}
-use Rattle.backplane.specs.Meaning.{Inputs}
-use Rattle.backplane.specs.declared.configuration.Configuration.{Configuration}
 use Rattle.enclosure.specs.declared.slots.PhysicalState.{PhysicalState}
-use Rattle.history.specs.Shelf.{Answer, done, refused, Call, power_on, sample, reset, command, Command, slot, Shelf, Slot, World}
-use Rattle.history.specs.Orders.{Operation, idle, prepare, release, identify, Order, acted, flagged, operated, operation_of, triple_in}
-use Rattle.history.specs.Steps.{Entry, entry, first_slot, sampled_slot}
-use Rattle.history.specs.Log.{last_frame, order_bytes}
+use Rattle.history.specs.Shelf.{Answer, refused, Call, power_on, sample, reset, command, Command, slot, Slot, World}
+use Rattle.history.specs.Orders.{Operation, idle, prepare, release, identify, Order, acted, operated}
+use Rattle.history.specs.Steps.{Entry, first_slot, sampled_slot}
+use Rattle.history.specs.Log.{order_bytes}
 use Rattle.history.specs.Kept.{StatesKept, change, event_by, event_of, first_state, moved_by, moved_since, ordered_event}
 use Rattle.history.proofs.Judged.{Ordered, fifteen, fourteen, ten, thirteen, twelve}
 use Rattle.history.proofs.Effects.{Effect, acts, effect, still}

@@ -7,7 +7,7 @@ use Rattle.backplane.specs.declared.configuration.Configuration.{Configuration}
 use Rattle.enclosure.specs.Conditions.{fan_of, supply_of}
 use Rattle.parts.specs.Laid.{fan_laid, supply_laid}
 use Rattle.pages.specs.Pages.{status_page}
-use Rattle.history.specs.Shelf.{Part, slot, fan, supply, Rest, Value}
+use Rattle.history.specs.Shelf.{Part, slot, supply, Rest, Value}
 use Rattle.history.specs.Hosts.{part_on}
 use Rattle.history.specs.Replies.{listed, page_bytes, slot_bytes, slot_page, slots_of, status_of}
 use Rattle.history.proofs.Listed.{append_same, run_length, run-same}

@@ -1,5 +1,5 @@
 -- A shelf is powered exactly from its first accepted power-on on.
-use Rattle.std.proofs.Common.{◌≡◌, ℕ, Bool, true, false, ◌||◌, eqb, List, [], ◌∷◌, length, Some, None, Option, refl}
+use Rattle.std.proofs.Common.{◌≡◌, ℕ, Bool, true, ◌||◌, eqb, List, [], ◌∷◌, length, Some, None, Option, refl}
 use Rattle.std.proofs.lemmas.Bool.{cond_both}
 use Rattle.backplane.specs.Meaning.{Inputs}
 use Rattle.history.specs.Shelf.{Call, power_on, sample, reset, command, Shelf, State, unpowered, powered, World}

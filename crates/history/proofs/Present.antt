@@ -1,5 +1,5 @@
 -- The inputs are those of the last accepted frame, and a drive is present exactly if the physical state says inserted.
-use Rattle.std.proofs.Common.{◌≡◌, ℕ, Bool, true, false, cond, eqb, List, [], ◌∷◌, Some, None, Option, sym, refl, ap, ◌∙◌, subst}
+use Rattle.std.proofs.Common.{◌≡◌, ℕ, Bool, true, false, eqb, List, ◌∷◌, Some, None, Option, sym, refl, ap, ◌∙◌}
 use Rattle.std.proofs.lemmas.Bool.{cond_both}
 use Rattle.answers.specs.declared.refusal.Refusal.{Refusal}
 use Rattle.backplane.specs.Meaning.{Inputs}
@@ -9,8 +9,8 @@ use Rattle.enclosure.specs.declared.record.rows.Row.{Row}
 use Rattle.enclosure.specs.declared.slots.PhysicalState.{PhysicalState}
 use Rattle.enclosure.specs.declared.slots.PhysicalState.TheVariants.{EmptyReady, EmptyPrepared, InsertedReady, InsertedPrepared}
 use Rattle.enclosure.specs.declared.slots.SlotEvent.TheVariants.{Prepare, Release}
-use Rattle.history.specs.Shelf.{done, refused, Call, power_on, sample, reset, command, Command, Part, slot, Rest, Shelf, Slot, World}
-use Rattle.history.specs.Orders.{Operation, idle, prepare, release, identify, Order, triples, operate, speed, switch, global, act, acted, acted_rest, flagged, operated, triple_in}
+use Rattle.history.specs.Shelf.{refused, Call, power_on, sample, reset, command, Command, slot, Rest, Shelf, Slot, World}
+use Rattle.history.specs.Orders.{Operation, idle, prepare, release, identify, Order, triples, operate, speed, switch, global, acted, acted_rest, flagged, operated, triple_in}
 use Rattle.history.specs.Judgement.{order_in}
 use Rattle.history.specs.Steps.{Entry, commanded, entry, first_slot, sampled_slot, verdict}
 use Rattle.history.specs.Log.{last_frame}

@@ -1,9 +1,9 @@
 -- What a command does not name it leaves alone.
-use Rattle.std.proofs.Common.{◌≡◌, ℕ, ◌+◌, ◌*◌, ◌<◌, ◌≤◌, Bool, true, false, cond, not, ◌&&◌, ◌||◌, eqb, ltb, ◌⊎◌, List, length, get_or, take, drop, Some, None, Option, sym, refl, ap, ◌∙◌, inl, inr, arith}
+use Rattle.std.proofs.Common.{◌≡◌, ℕ, ◌+◌, ◌*◌, ◌<◌, Bool, true, false, not, ◌&&◌, ◌||◌, eqb, ltb, List, length, get_or, take, drop, refl, ap, ◌∙◌, inl, inr, arith}
 use Rattle.std.proofs.lemmas.Bool.{both_ways, cases_lt, cond-false, eq-eqb, eqb-false, eqb-true, lt-ltb}
 use Rattle.backplane.specs.declared.configuration.Configuration.{Configuration}
 use Rattle.history.specs.Shelf.{Command, Part, slot, fan, supply, Rest, Value}
-use Rattle.history.specs.Cdb.{ill_formed, mode, opcode, sent, unit}
+use Rattle.history.specs.Cdb.{mode, opcode, unit}
 use Rattle.history.specs.Orders.{Order, act, act_rest, acted, acted_rest, flagged, triple_in}
 use Rattle.history.specs.Judgement.{Verdict, order_in}
 use Rattle.history.specs.Hosts.{bytes_name, is_global, names, second_names, writes}

@@ -1,23 +1,21 @@
 -- The record of a slot is what the log last set it to, and is fine.
-use Rattle.std.proofs.Common.{◌≡◌, ℕ, zero, suc, ◌+◌, ◌*◌, ◌/◌, ◌%◌, ◌^◌, ◌<◌, ◌≤◌, Bool, true, false, cond, not, ◌&&◌, ◌||◌, eqb, ◌⊎◌, List, [], ◌∷◌, ◌++◌, length, get_or, take, drop, Some, None, Option, unwrap_or, sym, refl, ap, ◌∙◌, subst, inl, inr, arith, length-take}
+use Rattle.std.proofs.Common.{◌≡◌, ℕ, zero, suc, ◌+◌, ◌*◌, ◌/◌, ◌%◌, ◌<◌, ◌≤◌, Bool, true, false, cond, not, ◌&&◌, ◌||◌, eqb, ◌⊎◌, List, ◌++◌, get_or, take, drop, Some, None, Option, unwrap_or, sym, refl, ap, ◌∙◌, subst, inl, inr, arith, length-take}
 use Rattle.std.proofs.lemmas.List.{get_or_past, get_or-take}
 use Rattle.std.proofs.lemmas.Bool.{and_parts, both_ways, cases_eq, cases_lt, cond_both, not-true}
 use Rattle.answers.specs.declared.refusal.Refusal.{Refusal}
-use Rattle.backplane.specs.Meaning.{Inputs}
 use Rattle.backplane.specs.declared.configuration.Configuration.{Configuration}
 use Rattle.enclosure.specs.Flags.{bit, rebuild_stopped, rebuilding}
 use Rattle.enclosure.specs.declared.record.rows.Row.{Row}
 use Rattle.history.specs.Shelf.{Answer, done, refused, Call, power_on, sample, reset, command, Command, slot, Shelf, Slot, World}
 use Rattle.history.specs.Orders.{Operation, idle, prepare, release, identify, Order, acted, both_rebuild, flagged, operated, sound_below, stored, triple_in, with_row}
-use Rattle.history.specs.Judgement.{order_in}
-use Rattle.history.specs.Steps.{Entry, entry, first_slot, sampled_slot, unconfigured, verdict}
-use Rattle.history.specs.Log.{drive_in, last_frame, puts_in}
+use Rattle.history.specs.Steps.{Entry, entry, first_slot, sampled_slot, unconfigured}
+use Rattle.history.specs.Log.{puts_in}
 use Rattle.history.specs.Kept.{Fine, RecordsFine, RecordsKept, first_row, unconfigured_since, ordered_row, put_in_since}
 use Rattle.history.proofs.Judged.{Ordered, fifteen, fourteen, ten, thirteen, twelve}
 use Rattle.history.proofs.Effects.{Effect, acts, effect, still}
 use Rattle.history.proofs.Along.{Along, along}
 use Rattle.history.proofs.LastSet.{Aspect, last_set}
-use Rattle.history.proofs.Settings.{by_effect, if_some}
+use Rattle.history.proofs.Settings.{by_effect}
 
 -- the triples of an order 10h, within the slots and past them
 pub triple_within : (d : ℕ) (xs : List ℕ) (n : ℕ) → n < d → triple_in (take (3 * d) xs) n ≡ triple_in xs n

@@ -1,14 +1,14 @@
 -- Speeds, supplies, alarm, lock and identify are what the log last set them to.
-use Rattle.std.proofs.Common.{◌≡◌, ℕ, ◌%◌, Bool, true, false, cond, ◌&&◌, eqb, List, [], ◌∷◌, get_or, Some, None, Option, unwrap_or, sym, refl, ap, ◌∙◌}
-use Rattle.std.proofs.lemmas.Bool.{cond_both, eq-eqb}
+use Rattle.std.proofs.Common.{◌≡◌, ℕ, Bool, true, false, cond, eqb, List, [], get_or, Some, None, Option, unwrap_or, sym, refl, ap, ◌∙◌}
+use Rattle.std.proofs.lemmas.Bool.{cond_both}
 use Rattle.backplane.specs.Meaning.{Inputs}
 use Rattle.backplane.specs.declared.configuration.Configuration.{Configuration}
 use Rattle.enclosure.specs.Flags.{bit}
-use Rattle.history.specs.Shelf.{Answer, Command, Part, slot, fan, supply, Rest, Shelf, Slot, World}
-use Rattle.history.specs.Orders.{Operation, idle, prepare, release, identify, Order, acted, acted_rest, flagged, operated, operation_of, stored, triple_in, with_row}
-use Rattle.history.specs.Steps.{Entry, commanded, first_slot, replied, restarted, sampled, sampled_slot, started}
-use Rattle.history.specs.Log.{LastSet, as_set, order_bytes, sets}
-use Rattle.history.specs.Kept.{SettingsKept, SettingsLastSet, identifies, on_part_of, ordered_alarm, ordered_identify, ordered_lock, ordered_speed, ordered_supply}
+use Rattle.history.specs.Shelf.{Answer, Command, slot, fan, supply, Rest, Shelf, Slot, World}
+use Rattle.history.specs.Orders.{Operation, idle, prepare, release, identify, Order, acted, acted_rest, operated}
+use Rattle.history.specs.Steps.{commanded, first_slot, replied, restarted, sampled, sampled_slot, started}
+use Rattle.history.specs.Log.{as_set, order_bytes}
+use Rattle.history.specs.Kept.{SettingsKept, identifies, ordered_alarm, ordered_identify, ordered_lock, ordered_speed, ordered_supply}
 use Rattle.history.proofs.Judged.{Ordered, fifteen, fourteen, ten, thirteen, twelve}
 use Rattle.history.proofs.Effects.{Effect, acts, effect, still}
 use Rattle.history.proofs.LastSet.{Aspect, last_set}

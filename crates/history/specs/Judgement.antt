@@ -1,5 +1,5 @@
 -- What a command comes to, by the configuration, its host's pending attention and the command alone.
-use Rattle.std.specs.Prelude.{ℕ, Bool, true, false, cond, ◌&&◌, ◌||◌, length, Some, None, Option, ◌==◌, nat_lt}
+use Rattle.std.specs.Prelude.{ℕ, Bool, false, cond, ◌&&◌, ◌||◌, length, Some, None, Option, ◌==◌, nat_lt}
 use Rattle.answers.specs.declared.refusal.Refusal.{Refusal}
 use Rattle.answers.specs.declared.refusal.Refusal.TheVariants as refusal
 use Rattle.answers.specs.declared.sense.Sense.{Sense}

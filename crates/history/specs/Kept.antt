@@ -1,5 +1,5 @@
 -- The laws of records and settings: after every list of calls, each is what the log last set it to.
-use Rattle.std.specs.Prelude.{◌≡◌, ℕ, ◌%◌, ◌<◌, Bool, true, false, cond, not, ◌&&◌, ◌||◌, List, [], ◌∷◌, ◌++◌, drop, Some, None, Option, ◌==◌, slice_index}
+use Rattle.std.specs.Prelude.{◌≡◌, ℕ, ◌%◌, ◌<◌, Bool, true, false, cond, ◌&&◌, ◌||◌, List, [], ◌∷◌, ◌++◌, drop, Some, None, Option, ◌==◌, slice_index}
 use Rattle.backplane.specs.Meaning.{Inputs}
 use Rattle.backplane.specs.declared.configuration.Configuration.{Configuration}
 use Rattle.enclosure.specs.Flags.{bit, rebuild_stopped, rebuilding}

@@ -9,7 +9,7 @@ use Rattle.backplane.specs.declared.configuration.Configuration.{Configuration}
 use Rattle.enclosure.specs.Conditions.{fan_of, supply_of}
 use Rattle.enclosure.specs.Slots.{state_byte}
 use Rattle.pages.specs.Pages.{Status, configuration_page, global_flags_page, insertions_page, status_page}
-use Rattle.history.specs.Shelf.{Answer, ended, refused, Part, slot, supply, Host, Rest, Shelf, Slot, Value, World}
+use Rattle.history.specs.Shelf.{Answer, ended, refused, Part, slot, supply, Host, Rest, Slot, Value, World}
 use Rattle.history.specs.Judgement.{Verdict, refuse, miss, miss_inquiry, miss_sense, attend, pass, reject, inquire, show_sense, show_page, obey}
 
 -- 56 bytes: a processor device, or with 7Fh no device there; then the version, the format, 33h more bytes; vendor, product, revision, unique identifier and channel; the name and revision of the interface

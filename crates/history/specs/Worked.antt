@@ -1,5 +1,5 @@
 -- Values of the definitions, worked out by hand.
-use Rattle.std.specs.Prelude.{◌≡◌, ℕ, suc, ◌+◌, true, false, cond, List, [], ◌∷◌, ◌++◌, map, length, take, drop, replicate, Some, None, Option, ◌==◌, slice_index}
+use Rattle.std.specs.Prelude.{◌≡◌, ℕ, suc, true, false, cond, List, [], ◌∷◌, ◌++◌, map, length, take, drop, replicate, Some, None, Option, ◌==◌, slice_index}
 use Rattle.answers.specs.Numbers.{sense_code, sense_key, sense_qualifier}
 use Rattle.answers.specs.declared.sense.Sense.TheVariants as sense
 use Rattle.answers.specs.declared.status.Status.TheVariants.{Good, CheckCondition}
