@@ -17,8 +17,8 @@ loop-n-preserved g c plain =
     let done = flat_map after_blank (take i ns) in
     let one = after_blank (get_or ns i 0) in
     let old = c.loop-n.invariant plain in
-    let new = has_written_append took f done c.loop-n.f one c.write-number.new.f old (c.in-ok-write-number.ensures old.plain (refl {a = true})) in
-    has_written_of_eq took f (done ++ one) (flat_map after_blank (take (i + 1) ns)) c.write-number.new.f (written_more ns i (search rules)) new
+    let new = has_written_append took f done c.loop-n.f one c.write_number.new.f old (c.in_ok-write_number.ensures old.plain (refl {a = true})) in
+    has_written_of_eq took f (done ++ one) (flat_map after_blank (take (i + 1) ns)) c.write_number.new.f (written_more ns i (search rules)) new
 
 pub returns : goal.returns
 returns g c plain ok =

@@ -6,7 +6,7 @@ pub loop-k-preserved : goal.loop-k-preserved
 loop-k-preserved g c =
     let v = outside (g.B.Backplane.value c.args.b.now) in
     let e = c.number.ensures ∙ ap (number_at v) c.place.ensures in
-    c.in-ok-push.ensures.items ∙ (λ i. c.loop-k.invariant i ++ e i ∷ []) ∙ sym (ap (numbers_to v c.args.row) (add-one c.loop-k.k))
+    c.in_ok-push.ensures.items ∙ (λ i. c.loop-k.invariant i ++ e i ∷ []) ∙ sym (ap (numbers_to v c.args.row) (add-one c.loop-k.k))
 
 pub returns : goal.returns
 unfolding row_shown
