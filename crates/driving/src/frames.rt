@@ -10,8 +10,8 @@ use table::rows::Table;
 
 // Whether a drive is in a slot.
 fn is_present<B: Backplane>(b: &B, k: usize) -> bool
-    requires { k < (value b.now).configuration.counts.slots }
-    ensures { result ≡ (value b.now).inputs.present k }
+    requires { k < (B.Backplane.value b.now).configuration.counts.slots }
+    ensures { result ≡ (B.Backplane.value b.now).inputs.present k }
 {
     b.input(Input::Presence(k)) == Some(1)
 }
@@ -25,8 +25,8 @@ fn count_at(counts: &[u16], k: usize) -> u16
 
 // Each slot at power-on, with its count.
 pub fn start_slots<B: Backplane>(table: &mut Table, b: &B, counts: &[u16])
-    ensures slots { (k : ℕ) → k < 14 → slots_of table.new k ≡ (if nat_lt k (value b.now).configuration.counts.slots then first_slot ((value b.now).inputs.present k) else slots_of table.old k) }
-    ensures counts { (k : ℕ) → k < 14 → counts_of table.new k ≡ (if nat_lt k (value b.now).configuration.counts.slots then slice_index counts.now k else counts_of table.old k) }
+    ensures slots { (k : ℕ) → k < 14 → slots_of table.new k ≡ (if nat_lt k (B.Backplane.value b.now).configuration.counts.slots then first_slot ((B.Backplane.value b.now).inputs.present k) else slots_of table.old k) }
+    ensures counts { (k : ℕ) → k < 14 → counts_of table.new k ≡ (if nat_lt k (B.Backplane.value b.now).configuration.counts.slots then slice_index counts.now k else counts_of table.old k) }
 {
     for k in 0..b.configuration().counts.slots {
         let at = k as usize;
@@ -36,8 +36,8 @@ pub fn start_slots<B: Backplane>(table: &mut Table, b: &B, counts: &[u16])
 
 // Each slot after a sample.
 pub fn see_slots<B: Backplane>(table: &mut Table, b: &B)
-    ensures slots { (k : ℕ) → k < 14 → slots_of table.new k ≡ (if nat_lt k (value b.now).configuration.counts.slots then sampled_slot (inserted (slots_of table.old k).state) ((value b.now).inputs.present k) (slots_of table.old k) else slots_of table.old k) }
-    ensures counts { (k : ℕ) → k < 14 → counts_of table.new k ≡ (if nat_lt k (value b.now).configuration.counts.slots then counted (inserted (slots_of table.old k).state) ((value b.now).inputs.present k) (counts_of table.old k) else counts_of table.old k) }
+    ensures slots { (k : ℕ) → k < 14 → slots_of table.new k ≡ (if nat_lt k (B.Backplane.value b.now).configuration.counts.slots then sampled_slot (inserted (slots_of table.old k).state) ((B.Backplane.value b.now).inputs.present k) (slots_of table.old k) else slots_of table.old k) }
+    ensures counts { (k : ℕ) → k < 14 → counts_of table.new k ≡ (if nat_lt k (B.Backplane.value b.now).configuration.counts.slots then counted (inserted (slots_of table.old k).state) ((B.Backplane.value b.now).inputs.present k) (counts_of table.old k) else counts_of table.old k) }
 {
     for k in 0..b.configuration().counts.slots {
         let at = k as usize;

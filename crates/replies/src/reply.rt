@@ -32,8 +32,8 @@ fn show_page<B: Backplane>(
     limit: usize,
     buffer: &mut [u8],
 ) -> usize
-    ensures len { 64 ≤ length buffer.old → FineBelow (value b.now).configuration.counts.slots (slots_of table.now) → result ≡ length (take limit (page_bytes (value b.now).configuration id (parts_of (value b.now) (slots_of table.now)) (rest_of (value b.now) (counts_of table.now) flags))) }
-    ensures laid { 64 ≤ length buffer.old → FineBelow (value b.now).configuration.counts.slots (slots_of table.now) → buffer.new ≡ take limit (page_bytes (value b.now).configuration id (parts_of (value b.now) (slots_of table.now)) (rest_of (value b.now) (counts_of table.now) flags)) ++ drop result buffer.old }
+    ensures len { 64 ≤ length buffer.old → FineBelow (B.Backplane.value b.now).configuration.counts.slots (slots_of table.now) → result ≡ length (take limit (page_bytes (B.Backplane.value b.now).configuration id (parts_of (B.Backplane.value b.now) (slots_of table.now)) (rest_of (B.Backplane.value b.now) (counts_of table.now) flags))) }
+    ensures laid { 64 ≤ length buffer.old → FineBelow (B.Backplane.value b.now).configuration.counts.slots (slots_of table.now) → buffer.new ≡ take limit (page_bytes (B.Backplane.value b.now).configuration id (parts_of (B.Backplane.value b.now) (slots_of table.now)) (rest_of (B.Backplane.value b.now) (counts_of table.now) flags)) ++ drop result buffer.old }
 {
     let mut page = [0; 64];
     let len = lay_page(b, table, flags, id, &mut page);
@@ -53,8 +53,8 @@ pub fn reply<B: Backplane>(
     host: Host,
     buffer: &mut [u8],
 ) -> Ended
-    ensures says { is_refusal (verdict_as verdict.entry) ≡ false → 64 ≤ length buffer.old → FineBelow (value b.now).configuration.counts.slots (slots_of table.now) → Ok result ≡ result_of (answer_to (value b.now) (slots_of table.now) (counts_of table.now) flags identity.now (verdict_as verdict.entry) (host_as host)) }
-    ensures lays { 64 ≤ length buffer.old → FineBelow (value b.now).configuration.counts.slots (slots_of table.now) → buffer.new ≡ laid (answer_to (value b.now) (slots_of table.now) (counts_of table.now) flags identity.now (verdict_as verdict.entry) (host_as host)) buffer.old }
+    ensures says { is_refusal (verdict_as verdict.entry) ≡ false → 64 ≤ length buffer.old → FineBelow (B.Backplane.value b.now).configuration.counts.slots (slots_of table.now) → Ok result ≡ result_of (answer_to (B.Backplane.value b.now) (slots_of table.now) (counts_of table.now) flags identity.now (verdict_as verdict.entry) (host_as host)) }
+    ensures lays { 64 ≤ length buffer.old → FineBelow (B.Backplane.value b.now).configuration.counts.slots (slots_of table.now) → buffer.new ≡ laid (answer_to (B.Backplane.value b.now) (slots_of table.now) (counts_of table.now) flags identity.now (verdict_as verdict.entry) (host_as host)) buffer.old }
 {
     let len = match verdict {
         Verdict::Refuse(_) | Verdict::Miss | Verdict::Attend | Verdict::Reject(_) => {

@@ -30,7 +30,7 @@ fn if_fitted(fitted: bool, number: Option<u8>) -> Option<bool>
 
 // The status page.
 fn status<B: Backplane>(b: &B, buffer: &mut [u8; 64]) -> usize
-    ensures { Front (status_page (status_of (value b.now).configuration (status_parts (value b.now)) (status_rest (value b.now)))) buffer.new result }
+    ensures { Front (status_page (status_of (B.Backplane.value b.now).configuration (status_parts (B.Backplane.value b.now)) (status_rest (B.Backplane.value b.now)))) buffer.new result }
 {
     let c = b.configuration();
     let counts = c.counts;
@@ -55,7 +55,7 @@ fn status<B: Backplane>(b: &B, buffer: &mut [u8; 64]) -> usize
 
 // The configuration page.
 fn configuration<B: Backplane>(b: &B, buffer: &mut [u8; 64]) -> usize
-    ensures { Front (configuration_page (value b.now).configuration.counts (value b.now).configuration.lock (value b.now).configuration.alarm) buffer.new result }
+    ensures { Front (configuration_page (B.Backplane.value b.now).configuration.counts (B.Backplane.value b.now).configuration.lock (B.Backplane.value b.now).configuration.alarm) buffer.new result }
 {
     let c = b.configuration();
     lay_configuration(c.counts, c.lock, c.alarm, buffer).unwrap_or(0)
@@ -100,7 +100,7 @@ pub fn lay_page<B: Backplane>(
     id: u8,
     buffer: &mut [u8; 64],
 ) -> usize
-    ensures { FineBelow (value b.now).configuration.counts.slots (slots_of table.now) → Front (page_bytes (value b.now).configuration id (parts_of (value b.now) (slots_of table.now)) (rest_of (value b.now) (counts_of table.now) flags)) buffer.new result }
+    ensures { FineBelow (B.Backplane.value b.now).configuration.counts.slots (slots_of table.now) → Front (page_bytes (B.Backplane.value b.now).configuration id (parts_of (B.Backplane.value b.now) (slots_of table.now)) (rest_of (B.Backplane.value b.now) (counts_of table.now) flags)) buffer.new result }
 {
     match id {
         0 => configuration(b, buffer),

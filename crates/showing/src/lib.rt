@@ -14,7 +14,7 @@ use table::slot::Slot;
 
 // Sets the lamp of a slot, and whether it is connected, if there is such a slot. All else is as it was.
 pub fn show_slot<B: Backplane>(b: &mut B, k: usize, slot: Slot)
-    ensures { value b.new ≡ made_where (of_slot (value b.old).configuration k) (slot_number (λ _. slot_as slot)) (value b.old) }
+    ensures { B.Backplane.value b.new ≡ made_where (of_slot (B.Backplane.value b.old).configuration k) (slot_number (λ _. slot_as slot)) (B.Backplane.value b.old) }
 {
     let _ = b.set(Output::Lamp(k), slot.lamp());
     let _ = b.set(Output::Connection(k), slot.is_connected() as u8);
@@ -22,7 +22,7 @@ pub fn show_slot<B: Backplane>(b: &mut B, k: usize, slot: Slot)
 
 // The same for each slot.
 pub fn show_slots<B: Backplane>(b: &mut B, table: &Table)
-    ensures { value b.new ≡ made_where (slots_below (value b.old).configuration.counts.slots) (slot_number (slots_of table.now)) (value b.old) }
+    ensures { B.Backplane.value b.new ≡ made_where (slots_below (B.Backplane.value b.old).configuration.counts.slots) (slot_number (slots_of table.now)) (B.Backplane.value b.old) }
 {
     for k in 0..b.configuration().counts.slots {
         show_slot(b, k as usize, table.slot(k as usize));

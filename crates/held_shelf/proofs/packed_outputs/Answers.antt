@@ -10,5 +10,5 @@ returns c =
     let parts = c.args.parts.now in
     let p = parts_of parts in
     let image = c.args.image.now in
-    let e = ap outside c.new-backplane.ensures.shows ∙ ap (λ ids. packed_outside (record { counts = p.counts; lock = p.lock; alarm = p.alarm; ids = ids; identity = p.identity }) image) c.as-slice-ids.ensures.value in
+    let e = ap outside c.new-backplane.ensures.shows ∙ ap (λ ids. packed_outside (record { counts = p.counts; lock = p.lock; alarm = p.alarm; ids = ids; identity = p.identity }) image) c.as_slice-ids.ensures.value in
     IfOk-weaker c.outputs.result _ _ (λ o h. h ∙ ap outputs_shown e) c.outputs.ensures

@@ -10,7 +10,7 @@ unfolding held_text
 returns-in-Some c =
     let shown = outputs_shown (outside_of (kept c.args.shelf.now)) in
     IfOk-weaker c.format.result _ _
-    (λ s h. h ∙ ap (λ t. numbered c.args.line (shown_text t (Some c.in-Some.image.now))) c.in-ok-outputs.ensures
+    (λ s h. h ∙ ap (λ t. numbered c.args.line (shown_text t (Some c.in-Some.image.now))) c.in_ok-outputs.ensures
     ∙ ap (λ o. numbered c.args.line (shown_text shown o)) c.in-Some.ensures)
     c.format.ensures.ok
 
@@ -19,6 +19,6 @@ unfolding held_text
 returns c =
     let shown = outputs_shown (outside_of (kept c.args.shelf.now)) in
     IfOk-weaker c.format-in-None.result _ _
-    (λ s h. h ∙ ap (λ t. numbered c.args.line (shown_text t None)) c.in-ok-outputs.ensures
+    (λ s h. h ∙ ap (λ t. numbered c.args.line (shown_text t None)) c.in_ok-outputs.ensures
     ∙ ap (λ o. numbered c.args.line (shown_text shown o)) c.in-None.ensures)
     c.format-in-None.ensures.ok

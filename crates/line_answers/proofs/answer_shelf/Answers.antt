@@ -7,7 +7,7 @@ use Rattle.line_answers.proofs.answer_shelf.Goals as goal
 pub returns : goal.returns
 unfolding made_text
 returns c =
-    let lamps = c.as-slice.ensures.value ∙ ap (λ s. s.lamps) c.in-ok-outputs.ensures in
+    let lamps = c.as_slice.ensures.value ∙ ap (λ s. s.lamps) c.in_ok-outputs.ensures in
     IfOk-weaker c.format.result _ _
     (λ s h. h ∙ ap (λ ns. numbered c.args.line (codes "shelf: made; lamps " ++ numbers_text ns)) lamps)
     c.format.ensures.ok

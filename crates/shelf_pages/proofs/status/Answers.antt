@@ -15,14 +15,14 @@ returns g c =
     let s = status_of v.configuration (status_parts v) (status_rest v) in
     let k = c.configuration-c.ensures in
     let e = same_status _ s
-    (ap (λ (p : Configuration). take p.counts.fans c.fan-codes.result) k ∙ c.fan-codes.ensures)
-    (ap (λ (p : Configuration). take p.counts.supplies c.supply-codes.result) k ∙ c.supply-codes.ensures)
+    (ap (λ (p : Configuration). take p.counts.fans c.fan_codes.result) k ∙ c.fan_codes.ensures)
+    (ap (λ (p : Configuration). take p.counts.supplies c.supply_codes.result) k ∙ c.supply_codes.ensures)
     (ap (λ (p : Configuration). take p.counts.slots c.ids.result) k ∙ c.ids.ensures)
-    (c.if-fitted.ensures ∙ ap (set_if _) c.output.ensures ∙ ap (λ (p : Configuration). set_if p.lock (output_of v Lock)) k ∙ set_fitted v.configuration.lock (v.outputs Lock))
-    (c.if-fitted-2.ensures ∙ ap (set_if _) c.output-2.ensures ∙ ap (λ (p : Configuration). set_if p.alarm (output_of v Alarm)) k ∙ set_fitted v.configuration.alarm (v.outputs Alarm))
+    (c.if_fitted.ensures ∙ ap (set_if _) c.output.ensures ∙ ap (λ (p : Configuration). set_if p.lock (output_of v Lock)) k ∙ set_fitted v.configuration.lock (v.outputs Lock))
+    (c.if_fitted-2.ensures ∙ ap (set_if _) c.output-2.ensures ∙ ap (λ (p : Configuration). set_if p.alarm (output_of v Alarm)) k ∙ set_fitted v.configuration.alarm (v.outputs Alarm))
     (ap (λ (p : Configuration). take p.counts.sensors c.temperatures.result) k ∙ c.temperatures.ensures)
     (ap (λ (p : Configuration). take (p.counts.sensors + p.counts.thermostats) c.over_temperature.result) k ∙ c.over_temperature.ensures) in
     let size : length c.args.buffer.now ≡ 64 = search rules in
     let fit = subst (λ (t : Status). length (status_page t) ≤ length c.args.buffer.now) (sym e) (subst (λ (n : ℕ). length (status_page s) ≤ n) (sym size) (status_fits v.configuration (status_parts v) (status_rest v) (g.B.Backplane.bounded c.args.b.now))) in
-    told _ (status_page s) c.lay-status.new.buffer c.unwrap-or.result (ap status_page e)
-    (front _ _ c.lay-status.new.buffer c.lay-status.result c.unwrap-or.result fit c.lay-status.ensures.len c.lay-status.ensures.page c.unwrap-or.ensures)
+    told _ (status_page s) c.lay_status.new.buffer c.unwrap_or.result (ap status_page e)
+    (front _ _ c.lay_status.new.buffer c.lay_status.result c.unwrap_or.result fit c.lay_status.ensures.len c.lay_status.ensures.page c.unwrap_or.ensures)

@@ -15,7 +15,7 @@ loop-k-preserved g c =
     let k = c.loop-k.k in
     let n : c.configuration-k-end.result.counts.slots ≡ v.configuration.counts.slots = ap (λ p. p.counts.slots) c.configuration-k-end.ensures in
     let l : k < c.configuration-k-end.result.counts.slots = c.loop-k-test.true in
-    c.show-slot.ensures
+    c.show_slot.ensures
     ∙ ap (λ (s : Slot). made_where (of_slot u.configuration k) (slot_number (λ _. s)) u) c.slot.ensures
     ∙ ap (λ (x : Value). made_where (of_slot x.configuration k) (slot_number (λ _. slots k)) x) c.loop-k.invariant
     ∙ show_more v slots k (omega arith)

@@ -12,8 +12,8 @@ pub loop-k-preserved : goal.loop-k-preserved
 loop-k-preserved g c =
     let q = (g.B.Backplane.value c.args.b.now).inputs.present in
     let k = c.loop-k.k in
-    let p = c.is-present.result in
-    let e = c.is-present.ensures in
+    let p = c.is_present.result in
+    let e = c.is_present.ensures in
     let old = slots_of c.args.table.now in
     let counts = counts_of c.args.table.now in
     let few = (g.B.Backplane.bounded c.args.b.now).slots in

@@ -9,5 +9,5 @@ use Rattle.held_shelf.proofs.HeldShelf.make.Goals as goal
 pub returns-in-None : goal.returns-in-None
 returns-in-None c =
     let parts = c.args.asked.parts in
-    let value = c.new-backplane.ensures.holds ∙ ap (λ ids. made_with (configured parts.counts parts.lock parts.alarm ids)) c.as-slice-ids.ensures.value in
+    let value = c.new-backplane.ensures.holds ∙ ap (λ ids. made_with (configured parts.counts parts.lock parts.alarm ids)) c.as_slice-ids.ensures.value in
     ap (plain (parts_of parts)) value ∙ ap (λ o. made_with_image (parts_of parts) (option_map vec_items o)) (sym c.in-None.is)

@@ -16,5 +16,5 @@ returns c =
     let limit = c.args.limit in
     let e : n ≡ length (take limit from) = c.min-len.ensures ∙ sym (length-take limit from) in
     let w = cut from limit n c.min-len.ensures in
-    let b : c.copy-from-slice.new.self ≡ take limit from = c.copy-from-slice.ensures.after ∙ w in
+    let b : c.copy_from_slice.new.self ≡ take limit from = c.copy_from_slice.ensures.after ∙ w in
     record { len = λ _. e; laid = λ _. ap (λ t. t ++ drop n c.args.reply.now) b ∙ ap (λ k. take limit from ++ drop k c.args.reply.now) e }

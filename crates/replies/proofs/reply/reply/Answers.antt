@@ -17,7 +17,7 @@ returns-in-MissSense g c =
 
 pub returns-in-ShowSense : goal.returns-in-ShowSense
 returns-in-ShowSense g c =
-    let e = c.sense-bytes-in-ShowSense.ensures ∙ ap sense_bytes c.shown.ensures in
+    let e = c.sense_bytes-in-ShowSense.ensures ∙ ap sense_bytes c.shown.ensures in
     let m = ap length e in
     record {
       says = λ _ l fine. rw c.in-ShowSense.is (said_good _ _ (cut_len _ _ _ _ e (c.send-len-in-ShowSense.ensures.len (omega arith))));
@@ -27,6 +27,6 @@ returns-in-ShowSense g c =
 pub returns-in-ShowPage : goal.returns-in-ShowPage
 returns-in-ShowPage g c =
     record {
-      says = λ _ l fine. rw c.in-ShowPage.is (said_good _ _ (c.show-page-len.ensures.len l fine));
-      lays = λ l fine. rw c.in-ShowPage.is (c.show-page-len.ensures.laid l fine ∙ ap (λ (n : ℕ). take c.in-ShowPage.limit (page_bytes (g.B.Backplane.value c.args.b.now).configuration c.in-ShowPage.id (parts_of (g.B.Backplane.value c.args.b.now) (slots_of c.args.table.now)) (rest_of (g.B.Backplane.value c.args.b.now) (counts_of c.args.table.now) c.args.flags)) ++ drop n c.args.buffer.now) (c.show-page-len.ensures.len l fine));
+      says = λ _ l fine. rw c.in-ShowPage.is (said_good _ _ (c.show_page-len.ensures.len l fine));
+      lays = λ l fine. rw c.in-ShowPage.is (c.show_page-len.ensures.laid l fine ∙ ap (λ (n : ℕ). take c.in-ShowPage.limit (page_bytes (g.B.Backplane.value c.args.b.now).configuration c.in-ShowPage.id (parts_of (g.B.Backplane.value c.args.b.now) (slots_of c.args.table.now)) (rest_of (g.B.Backplane.value c.args.b.now) (counts_of c.args.table.now) c.args.flags)) ++ drop n c.args.buffer.now) (c.show_page-len.ensures.len l fine));
     }

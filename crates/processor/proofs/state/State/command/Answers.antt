@@ -40,7 +40,7 @@ returns g c =
     let x = verdict_as c.judge-verdict.result in
     let j : x ≡ judge v.configuration (hosts_of k.hosts c.args.host).attention cmd
     = c.judge-verdict.ensures ∙ ap (λ (f : Configuration). judge f c.get.result.attention cmd) c.configuration.ensures ∙ ap (λ (h : Host). judge v.configuration h.attention cmd) c.get.ensures in
-    let go = not_refused c.judge-verdict.result (λ r e. c.in-default.not-Refuse r e) in
+    let go = not_refused c.judge-verdict.result (λ r e. c.in_default.not-Refuse r e) in
     let did = c.settle.ensures in
     let kept = become _ _ v did.does (order_keeps (order_in x) (slots_of c.settle.new.self.memory.table) v) in
     let facts : Facts w v refl (g.B.Backplane.bounded c.args.b.now).slots k on cmd (g.B.Backplane.value c.settle.new.b) c.settle.new.self c.args.buffer.now c.settle.new.buffer c.settle.result x
