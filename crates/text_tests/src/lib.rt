@@ -67,7 +67,10 @@ mod tests {
     fn bytes(rt: HostRuntime) -> Result<(), Fail> {
         let heap = rt.alloc();
         assert_eq!(rt; read_bytes(heap, b"-")?.len(), 0);
-        assert_eq!(rt; read_bytes(heap, b"12ab")?.as_slice(), &[0x12u8, 0xab]);
+        assert_eq!(rt;
+            read_bytes(heap, b"12ab")?.as_slice(),
+            [0x12u8, 0xab].as_slice()
+        );
         for word in ["", "--", "-12", "1"] {
             match read_bytes(heap, word.as_bytes()) {
                 Ok(_) => return Err(Fail::new("read what is not bytes")),
