@@ -1,5 +1,5 @@
 -- What a packed backplane means as it is made.
-use Rattle.std.proofs.Common.{◌≡◌, ℕ, ◌+◌, ◌/◌, ◌%◌, ◌^◌, Bool, cond, eqb, ltb, leb, List, length, get_or, replicate, ap, ◌∙◌, subst}
+use Rattle.std.proofs.Common.{◌≡◌, ℕ, ◌+◌, ◌/◌, ◌%◌, ◌^◌, Bool, eqb, ltb, leb, List, length, replicate, ap, ◌∙◌, subst}
 use native.Mathlib.Nat.{zero-div}
 use base.Fml.{GName}
 use Rattle.bits.specs.Image.{bit, bit_at, half, half_at}

@@ -1,5 +1,5 @@
 -- Two fitted outputs are one, or their cells are apart; so a write of one output leaves all else.
-use Rattle.std.proofs.Common.{◌≡◌, ℕ, ◌+◌, ◌-◌, ◌/◌, ◌<◌, ◌≤◌, Bool, true, false, cond, ◌&&◌, ◌||◌, eqb, ltb, leb, ◌⊎◌, List, length, MatchBool, sym, refl, ap, ◌∙◌, subst, inl, inr, ⊎_elim, arith, le-ltb, lt-ltb, leb-true}
+use Rattle.std.proofs.Common.{◌≡◌, ℕ, ◌+◌, ◌-◌, ◌/◌, ◌<◌, ◌≤◌, Bool, true, false, cond, ◌&&◌, ltb, leb, ◌⊎◌, List, length, MatchBool, sym, refl, ap, ◌∙◌, subst, inl, inr, ⊎_elim, arith, le-ltb, lt-ltb, leb-true}
 use mathlib.Core.Option.{some}
 use base.Fml.{GName}
 use borrow.Author.Tests.{clash}
@@ -9,7 +9,7 @@ use Rattle.bits.specs.declared.Cell.{Cell}
 use Rattle.bits.specs.Image.{Apart, Put, bit, byte_of, held, limit, within}
 use Rattle.backplane.specs.Configured.{kept, none}
 use Rattle.backplane.specs.Few.{few}
-use Rattle.backplane.specs.Meaning.{Bounded, altered, fits, has, index, numbers, put, same_output}
+use Rattle.backplane.specs.Meaning.{Bounded, altered, fits, has, numbers, put, same_output}
 use Rattle.backplane.specs.Same.{same_value}
 use Rattle.backplane.specs.declared.configuration.Configuration.{Configuration}
 use Rattle.backplane.specs.declared.places.Output.{Output}

@@ -1,5 +1,4 @@
 use Rattle.std.proofs.Common.{◌≡◌, true, sym, rules}
-use Rattle.bits.specs.Image.{Put}
 use Rattle.backplane.specs.Meaning.{fits}
 use Rattle.packed.specs.Layout.{cell_of, fitted}
 use Rattle.packed.proofs.Places.{cell_fits, put_there, value_after}
@@ -14,5 +13,5 @@ returns-then-fits c =
     let w = put_there old c.put.new.image c.place.result (cell_of c.args.at) c.args.number c.put.result c.place.ensures c.put.ensures.fits room c.put.ensures.image in
     record {
       says = sym g;
-      does = value_after s.configuration s.frame old c.put.new.image s.image.name c.args.at c.args.number g w;
+      does = value_after s.configuration s.frame old c.put.new.image s.image.ghost_name c.args.at c.args.number g w;
     }
