@@ -1,5 +1,5 @@
 -- How many of three bits are set, by a test that is computed at every number below 8.
-use Rattle.std.proofs.Common.{◌≡◌, ℕ, ◌<◌, Bool, cond, eqb, refl}
+use Rattle.std.proofs.Common.{◌≡◌, ℕ, ◌<◌, cond, eqb, refl}
 use lib.Count.{ones}
 use Rattle.bits.proofs.Below.{all_at}
 use Rattle.std.proofs.lemmas.Bool.{eqb-true}

@@ -1,7 +1,6 @@
 -- Orders of the code as the history knows them.
-use Rattle.std.specs.Prelude.{ℕ, Bool, true, false, cond, List, length, drop, Some, None, Option, nat_lt}
+use Rattle.std.specs.Prelude.{ℕ, cond, List, length, drop, Some, None, Option, nat_lt}
 use Rattle.std.specs.Borrow.{Bor}
-use Rattle.std.specs.Option.{option_map}
 use Rattle.enclosure.specs.declared.record.rows.Row.{Row}
 use Rattle.history.specs.Orders as history
 use Rattle.orders.specs.declared.order.Operation.{Operation}

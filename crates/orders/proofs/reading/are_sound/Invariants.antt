@@ -4,4 +4,4 @@ use Rattle.orders.proofs.reading.are_sound.Given as goal
 
 -- the triples so far are sound, and the others are left
 abbrev pub invariant-loop-k : goal.invariant-loop-k
-invariant-loop-k l = (sound_below l.triples l.-k ≡ true) × (l.rest ≡ drop (3 * l.-k) l.triples)
+invariant-loop-k l = (sound_below l.triples l._k ≡ true) × (l.rest ≡ drop (3 * l._k) l.triples)

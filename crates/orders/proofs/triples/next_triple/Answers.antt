@@ -1,4 +1,4 @@
-use Rattle.std.proofs.Common.{◌≡◌, ℕ, ◌≤◌, List, length, Some, Option, ap, rules}
+use Rattle.std.proofs.Common.{ℕ, ◌≤◌, List, length, Some, Option, ap, rules}
 use Rattle.std.proofs.lemmas.List.{take_rest}
 use Rattle.std.proofs.lemmas.Bool.{le-ltb}
 use Rattle.enclosure.specs.declared.record.rows.Row.{Row}
