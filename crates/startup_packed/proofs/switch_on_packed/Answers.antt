@@ -13,11 +13,11 @@ returns c =
     let old = c.args.image.now in
     let frame = c.args.frame.now in
     let parts = fitted_with c.args.counts c.args.lock c.args.alarm c.args.ids.now old in
-    let last = c.switch-on.new.b in
-    let total = c.switch-on.ensures.does ∙ ap (λ v. switched_on v (reading v.configuration frame)) c.new-b.ensures.shows in
+    let last = c.switch_on.new.b in
+    let total = c.switch_on.ensures.does ∙ ap (λ v. switched_on v (reading v.configuration frame)) c.new-b.ensures.shows in
     let e = told parts last.configuration (few_fitted _ _ _ _ _) frame last.frame old last.image.now _ last.image.ghost_name total in
     let lender = e.lender in
     record {
-      says = c.switch-on.ensures.says ∙ ap (λ v. reads_well (reading v.configuration frame)) c.new-b.ensures.shows ∙ reads parts frame;
+      says = c.switch_on.ensures.says ∙ ap (λ v. reads_well (reading v.configuration frame)) c.new-b.ensures.shows ∙ reads parts frame;
       bits = λ k. at_same (λ i. bit i k) last.image.now _ _ (search rules) (e.bits k);
     }
