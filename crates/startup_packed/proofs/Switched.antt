@@ -1,10 +1,10 @@
 -- From the value of a packed backplane that was switched on to the bits of its image.
-use Rattle.std.proofs.Common.{◌≡◌, ℕ, Bool, true, false, cond, ◌&&◌, List, Some, None, sym, refl, ap, ◌∙◌, ⊎_elim}
+use Rattle.std.proofs.Common.{◌≡◌, ℕ, cond, ◌&&◌, List, Some, None, sym, ap, ◌∙◌, ⊎_elim}
 use mathlib.Core.Option.{some}
 use base.Fml.{GName}
 use Rattle.std.proofs.lemmas.Bool.{and_from, and_left, and_parts, and_right, cases_Bool, cond-false, cond-true}
 use Rattle.bits.specs.Image.{bit, bit_at, inner, within}
-use Rattle.backplane.specs.Meaning.{Bounded, Outputs, Value, has, reads_well, sampled}
+use Rattle.backplane.specs.Meaning.{Bounded, Outputs, has, reads_well, sampled}
 use Rattle.backplane.specs.declared.configuration.Configuration.{Configuration}
 use Rattle.packed.specs.Frame.{inputs_in, reading, well_formed}
 use Rattle.packed.specs.Layout.{bit_of, cell_of, of_output, made_over, output_at, outputs_of, value_of}

@@ -1,4 +1,4 @@
-use Rattle.std.proofs.Common.{◌≡◌, ℕ, ap, ◌∙◌, rules}
+use Rattle.std.proofs.Common.{ap, ◌∙◌, rules}
 use Rattle.bits.specs.Image.{bit}
 use Rattle.backplane.specs.Meaning.{reads_well}
 use Rattle.packed.specs.Frame.{reading}
@@ -15,7 +15,7 @@ returns c =
     let parts = fitted_with c.args.counts c.args.lock c.args.alarm c.args.ids.now old in
     let last = c.switch_on.new.b in
     let total = c.switch_on.ensures.does ∙ ap (λ v. switched_on v (reading v.configuration frame)) c.new-b.ensures.shows in
-    let e = told parts last.configuration (few_fitted _ _ _ _ _) frame last.frame old last.image.now _ last.image.ghost_name total in
+    let e = told parts last.configuration (few_fitted c.args.counts c.args.lock c.args.alarm c.args.ids.now old) frame last.frame old last.image.now _ last.image.ghost_name total in
     let lender = e.lender in
     record {
       says = c.switch_on.ensures.says ∙ ap (λ v. reads_well (reading v.configuration frame)) c.new-b.ensures.shows ∙ reads parts frame;
