@@ -1,4 +1,4 @@
-use Rattle.std.proofs.Common.{◌≡◌, ◌≤◌, length, sym, ap, rules}
+use Rattle.std.proofs.Common.{◌≤◌, length, sym, ap, rules}
 use Rattle.std.proofs.lemmas.List.{get_or_past}
 use Rattle.hosts.specs.Held.{host_as, nobody}
 use Rattle.hosts.proofs.Hosts.get.Goals as goal

@@ -1,10 +1,10 @@
-use Rattle.std.proofs.Common.{◌≡◌, ℕ, ◌<◌, cond, eqb, length, get_or, sym, refl, ap, ◌∙◌, arith, rules}
+use Rattle.std.proofs.Common.{◌≡◌, ℕ, ◌<◌, cond, eqb, length, get_or, sym, ap, ◌∙◌, arith, rules}
 use Rattle.std.proofs.lemmas.Bool.{cond_both, eqb-true}
 use Rattle.history.specs.Judgement.{on_host}
 use Rattle.history.specs.Shelf.{Host}
 use Rattle.history.proofs.Tables.{set_at}
 use Rattle.verdicts.specs.Judged.{verdict_as}
-use Rattle.hosts.specs.Held.{host_as, hosts_of, nobody}
+use Rattle.hosts.specs.Held.{host_as, nobody}
 use Rattle.hosts.proofs.Hosts.settle.Goals as goal
 
 pub returns-then-k-lt16 : goal.returns-then-k-lt16
