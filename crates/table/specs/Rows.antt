@@ -1,10 +1,8 @@
 -- The slots of the code as the history knows them.
-use Rattle.std.specs.Prelude.{ℕ, Bool, false, cond, get_or}
+use Rattle.std.specs.Prelude.{cond}
 use Rattle.enclosure.specs.declared.record.rows.Row.{Row}
-use Rattle.enclosure.specs.declared.slots.PhysicalState.TheVariants.{EmptyReady}
 use Rattle.history.specs.Orders.{both_rebuild, flagged, stored, with_row}
 use Rattle.history.specs.Shelf as history
-use Rattle.history.specs.Steps.{row}
 use Rattle.table.specs.declared.slot.Slot.{Slot}
 
 abbrev pub slot_as : Slot → history.Slot
