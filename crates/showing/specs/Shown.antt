@@ -1,6 +1,6 @@
 -- The outputs that show slots.
 use Rattle.std.specs.Prelude.{ℕ, Bool, false, ◌&&◌, ◌==◌, nat_lt}
-use Rattle.backplane.specs.Meaning.{has, one}
+use Rattle.backplane.specs.Meaning.{one}
 use Rattle.backplane.specs.declared.configuration.Configuration.{Configuration}
 use Rattle.backplane.specs.declared.places.Output.{Output}
 use Rattle.backplane.specs.declared.places.Output.TheVariants.{Lamp, Connection, Speed, Supply, Alarm, Lock}

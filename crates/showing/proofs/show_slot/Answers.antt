@@ -1,5 +1,5 @@
-use Rattle.std.proofs.Common.{◌≡◌, ℕ, ap, ◌∙◌, rules}
-use Rattle.backplane.specs.Meaning.{Value, one, put}
+use Rattle.std.proofs.Common.{◌≡◌, ◌∙◌, rules}
+use Rattle.backplane.specs.Meaning.{one, put}
 use Rattle.backplane.specs.declared.places.Output.TheVariants.{Lamp, Connection}
 use Rattle.history.specs.Outputs.{connected, slot_lamp}
 use Rattle.table.specs.Rows.{slot_as}

@@ -1,4 +1,4 @@
-use Rattle.std.proofs.Common.{◌≡◌, ℕ, ◌<◌, ap, ◌∙◌, arith, rules}
+use Rattle.std.proofs.Common.{◌≡◌, ◌<◌, ap, ◌∙◌, arith}
 use Rattle.backplane.specs.Meaning.{Value}
 use Rattle.history.specs.Shelf.{Slot}
 use Rattle.startup.specs.Started.{made_where}
