@@ -1,5 +1,5 @@
 -- Lines gathered from chunks of input.
-use Rattle.std.specs.Prelude.{ℕ, ◌+◌, Bool, true, false, cond, not, ◌&&◌, List, [], ◌∷◌, ◌++◌, length, vec_items, codes, ◌==◌, nat_lt}
+use Rattle.std.specs.Prelude.{ℕ, ◌+◌, Bool, true, false, cond, not, ◌&&◌, List, [], ◌++◌, length, vec_items, codes, ◌==◌, nat_lt}
 use Rattle.words.specs.Words.{first_line}
 use Rattle.script.specs.Texts.{Spoken, unreadable, line_spoken, numbered}
 use Rattle.script.specs.declared.gathered.LineBuffer.{LineBuffer}

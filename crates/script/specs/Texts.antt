@@ -1,5 +1,5 @@
 -- The text that answers a line.
-use Rattle.std.specs.Prelude.{◌≡◌, ℕ, Bool, true, false, List, [], ◌∷◌, ◌++◌, Some, None, Ok, Err, string_bytes, codes, decimal, Option, Result}
+use Rattle.std.specs.Prelude.{ℕ, Bool, true, false, List, ◌++◌, Some, None, Ok, Err, string_bytes, codes, decimal, Option, Result}
 use Rattle.calls.specs.Calls.{Heard, part, line_read}
 use Rattle.fields.specs.Fields.{Bad}
 use Rattle.fields.specs.Texts.{expected_text}

@@ -3,4 +3,4 @@ use Rattle.script.specs.Texts.{unreadable}
 use Rattle.script.proofs.gathered.buffer.too_long.Goals as goal
 
 pub returns : goal.returns
-returns c = ap unreadable c.in-ok-text.ensures.ok
+returns c = ap unreadable c.in_ok-text.ensures.ok
