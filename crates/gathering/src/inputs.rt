@@ -26,16 +26,16 @@ fn condition(number: Option<u8>) -> Condition
 
 // The code of a fan.
 fn fan_code<B: Backplane>(b: &B, k: usize) -> FanCode
-    requires { k < (value b.now).configuration.counts.fans }
-    ensures { result ≡ fan_of ((value b.now).inputs.fan k) }
+    requires { k < (B.Backplane.value b.now).configuration.counts.fans }
+    ensures { result ≡ fan_of ((B.Backplane.value b.now).inputs.fan k) }
 {
     FanCode::of(condition(b.input(Input::Fan(k))))
 }
 
 // The code of a supply.
 fn supply_code<B: Backplane>(b: &B, k: usize) -> SupplyCode
-    requires { k < (value b.now).configuration.counts.supplies }
-    ensures { result ≡ supply_of ((value b.now).inputs.supply k) ((value b.now).outputs (Switch k) == 1) }
+    requires { k < (B.Backplane.value b.now).configuration.counts.supplies }
+    ensures { result ≡ supply_of ((B.Backplane.value b.now).inputs.supply k) ((B.Backplane.value b.now).outputs (Switch k) == 1) }
 {
     let on = b.output(Output::Supply(k)) == Some(1);
     SupplyCode::of(condition(b.input(Input::Supply(k))), on)
@@ -43,23 +43,23 @@ fn supply_code<B: Backplane>(b: &B, k: usize) -> SupplyCode
 
 // The byte of a sensor.
 fn temperature<B: Backplane>(b: &B, k: usize) -> PlainByte
-    requires { k < (value b.now).configuration.counts.sensors }
-    ensures { result ≡ record { 0 = (value b.now).inputs.temperature k } }
+    requires { k < (B.Backplane.value b.now).configuration.counts.sensors }
+    ensures { result ≡ record { 0 = (B.Backplane.value b.now).inputs.temperature k } }
 {
     PlainByte(b.input(Input::Temperature(k)).unwrap_or(0))
 }
 
 // An over-temperature flag.
 fn is_hot<B: Backplane>(b: &B, k: usize) -> bool
-    requires { k < (value b.now).configuration.counts.sensors + (value b.now).configuration.counts.thermostats }
-    ensures { result ≡ (value b.now).inputs.hot k }
+    requires { k < (B.Backplane.value b.now).configuration.counts.sensors + (B.Backplane.value b.now).configuration.counts.thermostats }
+    ensures { result ≡ (B.Backplane.value b.now).inputs.hot k }
 {
     b.input(Input::OverTemperature(k)) == Some(1)
 }
 
 // The codes of the fans.
 pub fn fan_codes<B: Backplane>(b: &B) -> [FanCode; 16]
-    ensures { take (value b.now).configuration.counts.fans result ≡ listed (λ k. fan_of ((value b.now).inputs.fan k)) (value b.now).configuration.counts.fans }
+    ensures { take (B.Backplane.value b.now).configuration.counts.fans result ≡ listed (λ k. fan_of ((B.Backplane.value b.now).inputs.fan k)) (B.Backplane.value b.now).configuration.counts.fans }
 {
     let mut codes = [FanCode::Unknown; 16];
     for k in 0..b.configuration().counts.fans {
@@ -70,7 +70,7 @@ pub fn fan_codes<B: Backplane>(b: &B) -> [FanCode; 16]
 
 // The codes of the supplies.
 pub fn supply_codes<B: Backplane>(b: &B) -> [SupplyCode; 8]
-    ensures { take (value b.now).configuration.counts.supplies result ≡ listed (λ k. supply_of ((value b.now).inputs.supply k) ((value b.now).outputs (Switch k) == 1)) (value b.now).configuration.counts.supplies }
+    ensures { take (B.Backplane.value b.now).configuration.counts.supplies result ≡ listed (λ k. supply_of ((B.Backplane.value b.now).inputs.supply k) ((B.Backplane.value b.now).outputs (Switch k) == 1)) (B.Backplane.value b.now).configuration.counts.supplies }
 {
     let mut codes = [SupplyCode::Unknown; 8];
     for k in 0..b.configuration().counts.supplies {
@@ -81,7 +81,7 @@ pub fn supply_codes<B: Backplane>(b: &B) -> [SupplyCode; 8]
 
 // The SCSI IDs of the slots.
 pub fn ids<B: Backplane>(b: &B) -> [PlainByte; 14]
-    ensures { take (value b.now).configuration.counts.slots result ≡ listed (λ k. record { 0 = slice_index (value b.now).configuration.ids k }) (value b.now).configuration.counts.slots }
+    ensures { take (B.Backplane.value b.now).configuration.counts.slots result ≡ listed (λ k. record { 0 = slice_index (B.Backplane.value b.now).configuration.ids k }) (B.Backplane.value b.now).configuration.counts.slots }
 {
     let configuration = b.configuration();
     let mut bytes = [PlainByte(0); 14];
@@ -93,7 +93,7 @@ pub fn ids<B: Backplane>(b: &B) -> [PlainByte; 14]
 
 // The bytes of the sensors.
 pub fn temperatures<B: Backplane>(b: &B) -> [PlainByte; 15]
-    ensures { take (value b.now).configuration.counts.sensors result ≡ listed (λ k. record { 0 = (value b.now).inputs.temperature k }) (value b.now).configuration.counts.sensors }
+    ensures { take (B.Backplane.value b.now).configuration.counts.sensors result ≡ listed (λ k. record { 0 = (B.Backplane.value b.now).inputs.temperature k }) (B.Backplane.value b.now).configuration.counts.sensors }
 {
     let mut bytes = [PlainByte(0); 15];
     for k in 0..b.configuration().counts.sensors {
@@ -104,7 +104,7 @@ pub fn temperatures<B: Backplane>(b: &B) -> [PlainByte; 15]
 
 // The over-temperature flags, of the sensors and then of the thermostats.
 pub fn over_temperature<B: Backplane>(b: &B) -> [bool; 30]
-    ensures { take ((value b.now).configuration.counts.sensors + (value b.now).configuration.counts.thermostats) result ≡ listed (λ k. (value b.now).inputs.hot k) ((value b.now).configuration.counts.sensors + (value b.now).configuration.counts.thermostats) }
+    ensures { take ((B.Backplane.value b.now).configuration.counts.sensors + (B.Backplane.value b.now).configuration.counts.thermostats) result ≡ listed (λ k. (B.Backplane.value b.now).inputs.hot k) ((B.Backplane.value b.now).configuration.counts.sensors + (B.Backplane.value b.now).configuration.counts.thermostats) }
 {
     let counts = b.configuration().counts;
     let mut flags = [false; 30];

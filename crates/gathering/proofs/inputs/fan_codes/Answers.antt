@@ -1,9 +1,7 @@
-use Rattle.std.proofs.Common.{◌≡◌, ℕ, ◌+◌, ◌<◌, ◌≤◌, eqb, length, get_or, refl, ap, ◌∙◌, arith, rules}
+use Rattle.std.proofs.Common.{◌≡◌, ◌≤◌, length, ap, ◌∙◌, arith}
 use Rattle.std.proofs.lemmas.List.{length-set}
 use Rattle.backplane.specs.declared.configuration.Configuration.{Configuration}
-use Rattle.backplane.specs.declared.places.Output.TheVariants.{Supply}
-use Rattle.enclosure.specs.Conditions.{fan_of, supply_of}
-use Rattle.parts.specs.declared.kinds.PlainByte.{PlainByte}
+use Rattle.enclosure.specs.Conditions.{fan_of}
 use Rattle.gathering.proofs.Gathered.{gathered_more}
 use Rattle.gathering.proofs.inputs.fan_codes.Goals as goal
 
@@ -15,6 +13,6 @@ loop-k-preserved g c =
     let m : v.configuration.counts.fans ≤ 16 = few.fans in
     let e = ap (λ (p : Configuration). p.counts.fans) c.configuration-k-end.ensures in
     let l = c.loop-k-test.true in (
-      gathered_more (λ k. fan_of (v.inputs.fan k)) c.loop-k.codes c.loop-k.k _ (omega arith) c.loop-k.invariant.0 c.fan-code.ensures,
+      gathered_more (λ k. fan_of (v.inputs.fan k)) c.loop-k.codes c.loop-k.k _ (omega arith) c.loop-k.invariant.0 c.fan_code.ensures,
       length-set c.loop-k.codes c.loop-k.k _ ∙ c.loop-k.invariant.1,
     )

@@ -1,9 +1,6 @@
-use Rattle.std.proofs.Common.{◌≡◌, ℕ, ◌+◌, ◌<◌, ◌≤◌, eqb, length, get_or, refl, ap, ◌∙◌, arith, rules}
+use Rattle.std.proofs.Common.{◌≡◌, ◌+◌, ◌≤◌, length, ap, ◌∙◌, arith}
 use Rattle.std.proofs.lemmas.List.{length-set}
 use Rattle.backplane.specs.declared.configuration.Configuration.{Configuration}
-use Rattle.backplane.specs.declared.places.Output.TheVariants.{Supply}
-use Rattle.enclosure.specs.Conditions.{fan_of, supply_of}
-use Rattle.parts.specs.declared.kinds.PlainByte.{PlainByte}
 use Rattle.gathering.proofs.Gathered.{gathered_more}
 use Rattle.gathering.proofs.inputs.over_temperature.Goals as goal
 
@@ -15,6 +12,6 @@ loop-k-preserved g c =
     let m : v.configuration.counts.sensors + v.configuration.counts.thermostats ≤ 30 = omega (arith, few.sensors, few.thermostats) in
     let e = ap (λ (p : Configuration). p.counts.sensors + p.counts.thermostats) c.configuration.ensures in
     let l = c.loop-k-test.true in (
-      gathered_more (λ k. v.inputs.hot k) c.loop-k.flags c.loop-k.k _ (omega arith) c.loop-k.invariant.0 c.is-hot.ensures,
+      gathered_more (λ k. v.inputs.hot k) c.loop-k.flags c.loop-k.k _ (omega arith) c.loop-k.invariant.0 c.is_hot.ensures,
       length-set c.loop-k.flags c.loop-k.k _ ∙ c.loop-k.invariant.1,
     )

@@ -1,7 +1,6 @@
-use Rattle.std.proofs.Common.{◌≡◌, eqb, length, get_or, take}
+use Rattle.std.proofs.Common.{◌≡◌, eqb, length, take}
 use Rattle.backplane.specs.declared.places.Output.TheVariants.{Supply}
-use Rattle.enclosure.specs.Conditions.{fan_of, supply_of}
-use Rattle.parts.specs.declared.kinds.PlainByte.{PlainByte}
+use Rattle.enclosure.specs.Conditions.{supply_of}
 use Rattle.history.specs.Replies.{listed}
 use Rattle.gathering.proofs.inputs.supply_codes.Given as goal
 

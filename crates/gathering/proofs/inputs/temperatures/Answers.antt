@@ -1,9 +1,6 @@
-use Rattle.std.proofs.Common.{◌≡◌, ℕ, ◌+◌, ◌<◌, ◌≤◌, eqb, length, get_or, refl, ap, ◌∙◌, arith, rules}
+use Rattle.std.proofs.Common.{◌≡◌, ◌≤◌, length, ap, ◌∙◌, arith}
 use Rattle.std.proofs.lemmas.List.{length-set}
 use Rattle.backplane.specs.declared.configuration.Configuration.{Configuration}
-use Rattle.backplane.specs.declared.places.Output.TheVariants.{Supply}
-use Rattle.enclosure.specs.Conditions.{fan_of, supply_of}
-use Rattle.parts.specs.declared.kinds.PlainByte.{PlainByte}
 use Rattle.gathering.proofs.Gathered.{gathered_more}
 use Rattle.gathering.proofs.inputs.temperatures.Goals as goal
 

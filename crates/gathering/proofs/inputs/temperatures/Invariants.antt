@@ -1,7 +1,4 @@
-use Rattle.std.proofs.Common.{◌≡◌, eqb, length, get_or, take}
-use Rattle.backplane.specs.declared.places.Output.TheVariants.{Supply}
-use Rattle.enclosure.specs.Conditions.{fan_of, supply_of}
-use Rattle.parts.specs.declared.kinds.PlainByte.{PlainByte}
+use Rattle.std.proofs.Common.{◌≡◌, length, take}
 use Rattle.history.specs.Replies.{listed}
 use Rattle.gathering.proofs.inputs.temperatures.Given as goal
 

@@ -1,5 +1,4 @@
 use Rattle.std.proofs.Common.{◌≡◌, length, take}
-use Rattle.parts.specs.declared.kinds.InsertionCount.{InsertionCount}
 use Rattle.history.specs.Replies.{listed}
 use Rattle.table.specs.Table.{counts_of}
 use Rattle.gathering.proofs.kept.insertion_counts.Given as goal
