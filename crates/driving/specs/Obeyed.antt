@@ -1,5 +1,5 @@
 -- What an order that is obeyed does to the table, to the flags and to the backplane.
-use Rattle.std.specs.Prelude.{ℕ, ◌+◌, ◌*◌, ◌%◌, Bool, cond, List, [], ◌∷◌, length, ◌==◌, nat_lt}
+use Rattle.std.specs.Prelude.{ℕ, ◌+◌, ◌*◌, ◌%◌, cond, List, [], ◌∷◌, length, ◌==◌, nat_lt}
 use Rattle.backplane.specs.Meaning.{Value, one, put}
 use Rattle.backplane.specs.declared.places.Output.TheVariants.{Speed, Supply, Alarm, Lock}
 use Rattle.enclosure.specs.Flags.{bit}

@@ -1,5 +1,4 @@
-use Rattle.std.proofs.Common.{◌≡◌, ℕ, ◌<◌, Bool, cond, eqb, get_or, sym, refl, ap, ◌∙◌, rules}
-use Rattle.history.specs.Shelf.{Slot}
+use Rattle.std.proofs.Common.{get_or, ap}
 use Rattle.history.specs.Steps.{first_slot}
 use Rattle.table.specs.Table.{counts_of, slots_of}
 use Rattle.driving.proofs.Below.{one_more}
