@@ -1,5 +1,5 @@
 -- A page at the front of a buffer that holds it.
-use Rattle.std.proofs.Common.{◌≡◌, ℕ, ◌≤◌, cond, List, ◌++◌, length, take, drop, Some, Option, unwrap_or, sym, refl, ap, ◌∙◌, take_at}
+use Rattle.std.proofs.Common.{◌≡◌, ℕ, ◌≤◌, List, ◌++◌, length, take, drop, Option, unwrap_or, refl, ap, ◌∙◌, take_at}
 use Rattle.std.proofs.lemmas.Bool.{le-leb}
 use Rattle.pages.specs.Into.{laid_front, length_within}
 use Rattle.shelf_pages.specs.Held.{Front}

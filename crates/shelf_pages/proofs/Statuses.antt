@@ -1,5 +1,5 @@
 -- The status page of a backplane.
-use Rattle.std.proofs.Common.{◌≡◌, ℕ, ◌+◌, ◌≤◌, Bool, true, false, cond, eqb, List, length, get_or, Some, None, Option, sym, refl, ap, ◌∙◌, arith}
+use Rattle.std.proofs.Common.{◌≡◌, ℕ, ◌≤◌, Bool, true, false, cond, eqb, length, get_or, Some, None, refl, arith}
 use Rattle.backplane.specs.Meaning.{Bounded}
 use Rattle.backplane.specs.declared.configuration.Configuration.{Configuration}
 use Rattle.history.specs.Replies.{if_fitted, status_of}

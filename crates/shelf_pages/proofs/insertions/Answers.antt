@@ -1,4 +1,4 @@
-use Rattle.std.proofs.Common.{◌≡◌, ℕ, ◌*◌, ◌≤◌, List, length, take, sym, refl, ap, ◌∙◌, subst, arith, rules}
+use Rattle.std.proofs.Common.{◌≡◌, ℕ, ◌≤◌, List, length, take, sym, ap, ◌∙◌, subst, arith, rules}
 use Rattle.history.specs.Replies.{listed}
 use Rattle.history.proofs.Listed.{listed_length}
 use Rattle.pages.specs.Pages.{insertions_page}

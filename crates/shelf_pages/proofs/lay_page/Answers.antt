@@ -1,4 +1,4 @@
-use Rattle.std.proofs.Common.{◌≡◌, ℕ, ◌≤◌, sym, refl, ap, ◌∙◌, subst, rules}
+use Rattle.std.proofs.Common.{ℕ, ◌≤◌, ap, subst}
 use Rattle.backplane.specs.declared.configuration.Configuration.{Configuration}
 use Rattle.history.specs.Replies.{listed, slot_page}
 use Rattle.pages.specs.Pages.{insertions_page}

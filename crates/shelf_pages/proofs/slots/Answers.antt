@@ -1,4 +1,4 @@
-use Rattle.std.proofs.Common.{◌≡◌, ℕ, ◌+◌, ◌*◌, ◌≤◌, List, [], ◌∷◌, ◌++◌, length, take, sym, refl, ap, ◌∙◌, subst, arith, length-take, rules}
+use Rattle.std.proofs.Common.{◌≡◌, ℕ, ◌≤◌, List, [], ◌∷◌, ◌++◌, length, take, ap, arith, length-take, rules}
 use Rattle.history.specs.Replies.{listed, slot_page}
 use Rattle.pages.specs.Pages.{slots_page}
 use Rattle.pages.proofs.Sizes.{slots_long}

@@ -1,4 +1,4 @@
-use Rattle.std.proofs.Common.{◌≡◌, ℕ, ◌+◌, ◌≤◌, length, take, sym, refl, ap, ◌∙◌, subst, rules}
+use Rattle.std.proofs.Common.{◌≡◌, ℕ, ◌+◌, ◌≤◌, length, take, sym, ap, ◌∙◌, subst, rules}
 use Rattle.backplane.specs.Meaning.{output_of}
 use Rattle.backplane.specs.declared.configuration.Configuration.{Configuration}
 use Rattle.backplane.specs.declared.places.Output.TheVariants.{Alarm, Lock}
