@@ -17,11 +17,11 @@ use Rattle.history.proofs.PageBytes.{cut-byte, page-length}
 use Rattle.history.proofs.Quiet.{quiet, rest_kept}
 
 -- a command that names the part is the host's
-abbrev Its-host : World → ℕ → Part → Command → Type 0
-Its-host w h p c = names w.configuration c p ≡ true → c.host ≡ h
+abbrev ItsHost : World → ℕ → Part → Command → Type 0
+ItsHost w h p c = names w.configuration c p ≡ true → c.host ≡ h
 
-abbrev Not-global : Command → Type 0
-Not-global c = is_global c ≡ false
+abbrev NotGlobal : Command → Type 0
+NotGlobal c = is_global c ≡ false
 
 -- the shelf after commands
 abbrev end_of : World → Shelf → List Command → Shelf
@@ -127,25 +127,25 @@ module _ (w : World) (h : ℕ) (all : List Command) where
       (cond b (said c (replied w s c) ∷ heard_by h (said_by w (powered (commanded w s c)) cs)) (heard_by h (said_by w (powered (commanded w s c)) cs)))
       (said_by w (powered t) (cond b (c ∷ of_host h cs) (of_host h cs)))
   solo-cases s t c cs o g a more true e = let k = eqb-true _ _ e in (own-answer s t c k a, more (commanded w t c) (own-step s t c k a))
-  solo-cases s t c cs o g a more false e = more t (other_step s t c (eqb-false _ _ e) (All-head Not-global c cs g) (λ p i. All-head (Its-host w h p) c cs (o p i)) a)
+  solo-cases s t c cs o g a more false e = more t (other_step s t c (eqb-false _ _ e) (All-head NotGlobal c cs g) (λ p i. All-head (ItsHost w h p) c cs (o p i)) a)
 
   solo : (cs : List Command) (s t : Shelf) → Covers cs → Plain cs → Agree s t →
       AllZip (Alike w h all) (heard_by h (said_by w (powered s) cs)) (said_by w (powered t) (of_host h cs))
   solo [] s t o g a = tt
   solo (c ∷ cs) s t o g a =
-      solo-cases s t c cs o g a (λ u b. solo cs (commanded w s c) u (λ p i. All-tail (Its-host w h p) c cs (o p i)) (All-tail Not-global c cs g) b) (eqb c.host h) refl
+      solo-cases s t c cs o g a (λ u b. solo cs (commanded w s c) u (λ p i. All-tail (ItsHost w h p) c cs (o p i)) (All-tail NotGlobal c cs g) b) (eqb c.host h) refl
 
   end-cases : (s t : Shelf) (c : Command) (cs : List Command) → Covers (c ∷ cs) → Plain (c ∷ cs) → Agree s t →
       ((u : Shelf) → Agree (commanded w s c) u → Agree (end_of w (commanded w s c) cs) (end_of w u (of_host h cs))) →
       (b : Bool) → eqb c.host h ≡ b →
       Agree (end_of w (commanded w s c) cs) (end_of w t (cond b (c ∷ of_host h cs) (of_host h cs)))
   end-cases s t c cs o g a more true e = more (commanded w t c) (own-step s t c (eqb-true _ _ e) a)
-  end-cases s t c cs o g a more false e = more t (other_step s t c (eqb-false _ _ e) (All-head Not-global c cs g) (λ p i. All-head (Its-host w h p) c cs (o p i)) a)
+  end-cases s t c cs o g a more false e = more t (other_step s t c (eqb-false _ _ e) (All-head NotGlobal c cs g) (λ p i. All-head (ItsHost w h p) c cs (o p i)) a)
 
   end : (cs : List Command) (s t : Shelf) → Covers cs → Plain cs → Agree s t → Agree (end_of w s cs) (end_of w t (of_host h cs))
   end [] s t o g a = a
   end (c ∷ cs) s t o g a =
-      end-cases s t c cs o g a (λ u b. end cs (commanded w s c) u (λ p i. All-tail (Its-host w h p) c cs (o p i)) (All-tail Not-global c cs g) b) (eqb c.host h) refl
+      end-cases s t c cs o g a (λ u b. end cs (commanded w s c) u (λ p i. All-tail (ItsHost w h p) c cs (o p i)) (All-tail NotGlobal c cs g) b) (eqb c.host h) refl
 
   -- an unpowered shelf refuses every command
   unpowered-cases : (c : Command) (cs : List Command) → AllZip (Alike w h all) (heard_by h (said_by w unpowered cs)) (said_by w unpowered (of_host h cs)) → (b : Bool)
@@ -184,9 +184,9 @@ module _ (w : World) (p : Part) (all : List Command) where
       go (inr z) (inr n) = inr (All-cons Unnamed c cs z n)
 
   none_only : (cs : List Command) → All (λ c. names w.configuration c p ≡ false) cs → Only w 0 p cs
-  none_only [] a = All-nil (Its-host w 0 p)
+  none_only [] a = All-nil (ItsHost w 0 p)
   none_only (c ∷ cs) a =
-      All-cons (Its-host w 0 p) c cs (λ y. absurd (both_ways (names w.configuration c p) (All-head Unnamed c cs a) y)) (none_only cs (All-tail Unnamed c cs a))
+      All-cons (ItsHost w 0 p) c cs (λ y. absurd (both_ways (names w.configuration c p) (All-head Unnamed c cs a) y)) (none_only cs (All-tail Unnamed c cs a))
 
 owner : (w : World) (p : Part) (cs : List Command) → All (λ c. names w.configuration c p ≡ true → Only w c.host p cs) cs → (h : ℕ) × Only w h p cs
 owner w p cs a = elim (owner-in w p cs cs a) [ inl h ↦ h | inr n ↦ (0, none_only w p cs cs n) ]
