@@ -59,17 +59,20 @@ def defined(path, text):
     """Names that a file defines at its top level, and its fields and constructors."""
     top, fields = set(), set()
     made = os.path.basename(path) in MADE
-    block = False
+    block, module = None, False
     for line in text.split("\n"):
-        if line.startswith("--") or not line.strip():
+        if line.lstrip().startswith("--") or not line.strip():
             continue
-        head = re.match(r"(?:(?:abbrev|unfoldable|mutual) )*(?:pub )?(?:(record|data|abbrev|unfoldable) )?(" + WORD + r")", line)
-        if not line.startswith((" ", "\t")):
-            block = bool(re.match(r"(?:pub )?(?:record|data) ", line))
-            if head and kebab(head.group(2)) and (" : " in line or block):
+        deep = len(line) - len(line.lstrip())
+        if deep == 0:
+            module = bool(re.match(r"(?:pub )?module ", line))
+        head = re.match(r"\s*(?:(?:abbrev|unfoldable|mutual|pub) )*(?:(record|data) )?(" + WORD + r")", line)
+        if (deep == 0 or module and deep == 2) and not re.match(r"(?:pub )?module ", line):
+            block = deep if head and head.group(1) else None
+            if head and kebab(head.group(2)) and (" : " in line or block is not None):
                 if not (made and re.search(r" : (?:goal|need)\.", line)):
                     top.add(head.group(2))
-        elif block:
+        elif block is not None and deep > block:
             m = re.match(r"\s+(?:pub )?(" + WORD + r"(?: " + WORD + r")*) :", line)
             if m:
                 fields |= {n for n in m.group(1).split() if kebab(n)}

@@ -121,14 +121,14 @@ unspaced (b ∷ bs) h some = pair_seen b (flat_map after_blank bs) (All-head IsB
 
 -- The laws of a reader, from what it reads.
 module _ {X : Type 0} (items : X → List ℕ) where
-  pub reads-back : (r : Result X HexFault) (text : List ℕ) → MatchResult r (λ v. hex_read text ≡ Some (items v)) (λ f. Failed f (hex_read text)) → (bs : List ℕ) → All (λ b. b < 256) bs → (text ≡ spelled bs) ⊎ (text ≡ spelled_upper bs) → MatchResult r (λ v. items v ≡ bs) (λ f. f ≡ Memory)
-  reads-back (Ok v) text h bs small e = let f = read_back text bs small e in cc
-  reads-back (Err Memory) text h bs small e = refl
-  reads-back (Err NotHex) text h bs small e = let f = read_back text bs small e in let z : ◌≡◌ {A = ℕ} 0 1 = cc in absurd (omega arith)
+  pub reads_back : (r : Result X HexFault) (text : List ℕ) → MatchResult r (λ v. hex_read text ≡ Some (items v)) (λ f. Failed f (hex_read text)) → (bs : List ℕ) → All (λ b. b < 256) bs → (text ≡ spelled bs) ⊎ (text ≡ spelled_upper bs) → MatchResult r (λ v. items v ≡ bs) (λ f. f ≡ Memory)
+  reads_back (Ok v) text h bs small e = let f = read_back text bs small e in cc
+  reads_back (Err Memory) text h bs small e = refl
+  reads_back (Err NotHex) text h bs small e = let f = read_back text bs small e in let z : ◌≡◌ {A = ℕ} 0 1 = cc in absurd (omega arith)
 
   pub reads_only : (r : Result X HexFault) (text : List ℕ) → MatchResult r (λ v. hex_read text ≡ Some (items v)) (λ f. Failed f (hex_read text)) → IfOk r (λ v. map to_ascii_lowercase text ≡ spelled (items v))
   reads_only (Ok v) text h = read_only text (items v) h
   reads_only (Err f) text h = tt
 
-  pub reads-unspaced : (r : Result X HexFault) (text : List ℕ) → MatchResult r (λ v. hex_read text ≡ Some (items v)) (λ f. Failed f (hex_read text)) → (bs : List ℕ) → All (λ b. b < 256) bs → 0 < length bs → text ≡ unblanked (spaced bs) → MatchResult r (λ v. items v ≡ bs) (λ f. f ≡ Memory)
-  reads-unspaced r text h bs small some e = reads-back r text h bs small (inl (e ∙ unspaced bs small some))
+  pub reads_unspaced : (r : Result X HexFault) (text : List ℕ) → MatchResult r (λ v. hex_read text ≡ Some (items v)) (λ f. Failed f (hex_read text)) → (bs : List ℕ) → All (λ b. b < 256) bs → 0 < length bs → text ≡ unblanked (spaced bs) → MatchResult r (λ v. items v ≡ bs) (λ f. f ≡ Memory)
+  reads_unspaced r text h bs small some e = reads_back r text h bs small (inl (e ∙ unspaced bs small some))

@@ -20,8 +20,8 @@ module _ (slots : ℕ → Slot) (xs : List Shown) (k : ℕ) (x : Shown) (l : k <
       let e = is (fine k (omega arith)) in
       ap (flat_map slot_laid) (take_more_set xs k x l) ∙ sym a ∙ ap₂ (λ ys zs. ys ++ zs) h e ∙ b ∙ ap (λ n. flat_map slot_bytes (listed slots n)) (sym (add-one k))
 
-  pub shown-more : (n : ℕ) → n ≤ k + 1 → ((j : ℕ) → j < n → Fine (slots j).row) → flat_map slot_laid (take n (set xs k x)) ≡ flat_map slot_bytes (listed slots n)
-  shown-more n m fine = elim (cases_lt n (k + 1)) [
+  pub shown_more : (n : ℕ) → n ≤ k + 1 → ((j : ℕ) → j < n → Fine (slots j).row) → flat_map slot_laid (take n (set xs k x)) ≡ flat_map slot_bytes (listed slots n)
+  shown_more n m fine = elim (cases_lt n (k + 1)) [
     | inl b ↦ ap (flat_map slot_laid) (take-set-le n xs k x (omega arith)) ∙ inv n (omega arith) fine
     | inr g ↦ (let e : n ≡ k + 1 = omega arith in
         ap (λ i. flat_map slot_laid (take i (set xs k x))) e ∙ last (λ j b. fine j (omega arith)) ∙ ap (λ i. flat_map slot_bytes (listed slots i)) (sym e))

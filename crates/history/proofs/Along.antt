@@ -28,30 +28,30 @@ module _ (w : World) (P : Shelf → List Entry → Type 0) (k : Along w P) where
   refused_over unpowered log c r h = tt
   refused_over (powered s) log c r h = k.refusals s log c r h
 
-  powered-over : (s : State) (log : List Entry) (counts frame : List ℕ) → eqb w.configuration.counts.slots 0 ≡ false → Over s log → (o : Option Inputs) → w.reading frame ≡ o
+  powered_over : (s : State) (log : List Entry) (counts frame : List ℕ) → eqb w.configuration.counts.slots 0 ≡ false → Over s log → (o : Option Inputs) → w.reading frame ≡ o
       → After (power_on counts frame) log (powered_by s counts o)
-  powered-over s log counts frame z h (Some q) e = k.starts log counts frame q z e
-  powered-over s log counts frame z h None e = refused_over s log (power_on counts frame) refusal.Frame h
+  powered_over s log counts frame z h (Some q) e = k.starts log counts frame q z e
+  powered_over s log counts frame z h None e = refused_over s log (power_on counts frame) refusal.Frame h
 
-  sampled-over : (s : Shelf) (log : List Entry) (frame : List ℕ) → P s log → (o : Option Inputs) → w.reading frame ≡ o → After (sample frame) log (sampled_by s o)
-  sampled-over s log frame h (Some q) e = k.samples s log frame q e h
-  sampled-over s log frame h None e = k.refusals s log (sample frame) refusal.Frame h
+  sampled_over : (s : Shelf) (log : List Entry) (frame : List ℕ) → P s log → (o : Option Inputs) → w.reading frame ≡ o → After (sample frame) log (sampled_by s o)
+  sampled_over s log frame h (Some q) e = k.samples s log frame q e h
+  sampled_over s log frame h None e = k.refusals s log (sample frame) refusal.Frame h
 
-  step-over : (s : State) (log : List Entry) (c : Call) → Over s log → After c log (step w s c)
-  step-over s log (power_on counts frame) h =
+  step_over : (s : State) (log : List Entry) (c : Call) → Over s log → After c log (step w s c)
+  step_over s log (power_on counts frame) h =
       cond_both (eqb w.configuration.counts.slots 0) _ _ (After (power_on counts frame) log) (λ _. refused_over s log _ refusal.NoSlots h) λ z.
       cond_both (eqb (length counts) w.configuration.counts.slots) _ _ (After (power_on counts frame) log)
-      (λ _. powered-over s log counts frame z h (w.reading frame) refl) (λ _. refused_over s log _ refusal.Counts h)
-  step-over unpowered log (sample frame) h = tt
-  step-over (powered s) log (sample frame) h = sampled-over s log frame h (w.reading frame) refl
-  step-over unpowered log reset h = tt
-  step-over (powered s) log reset h = k.resets s log h
-  step-over unpowered log (command c) h = tt
-  step-over (powered s) log (command c) h = k.commands s log c h
+      (λ _. powered_over s log counts frame z h (w.reading frame) refl) (λ _. refused_over s log _ refusal.Counts h)
+  step_over unpowered log (sample frame) h = tt
+  step_over (powered s) log (sample frame) h = sampled_over s log frame h (w.reading frame) refl
+  step_over unpowered log reset h = tt
+  step_over (powered s) log reset h = k.resets s log h
+  step_over unpowered log (command c) h = tt
+  step_over (powered s) log (command c) h = k.commands s log c h
 
-  run-over : (cs : List Call) (h : History) → Over h.state h.log → Over (run w h cs).state (run w h cs).log
-  run-over [] h o = o
-  run-over (c ∷ cs) h o = run-over cs (fed w h c) (step-over h.state h.log c o)
+  run_over : (cs : List Call) (h : History) → Over h.state h.log → Over (run w h cs).state (run w h cs).log
+  run_over [] h o = o
+  run_over (c ∷ cs) h o = run_over cs (fed w h c) (step_over h.state h.log c o)
 
   pub along : (calls : List Call) (s : Shelf) → (history w calls).state ≡ powered s → P s (history w calls).log
-  along calls s e = subst (λ (x : State). Over x (history w calls).log) e (run-over calls new tt)
+  along calls s e = subst (λ (x : State). Over x (history w calls).log) e (run_over calls new tt)

@@ -36,44 +36,44 @@ record Idle (v : Verdict) : Type 0 where
   host : (x : Host) → on_host v x ≡ x
 
 module _ (w : World) (h : Host) (ps : (p : Part) → Value p) (r : Rest) where
-  refused-idle : (v : Verdict) → is_refused (reply w v h ps r) ≡ true → Idle v
-  refused-idle (refuse n) e = record { order = refl; host = λ x. refl }
-  refused-idle miss e = no e
-  refused-idle (miss_inquiry n) e = no e
-  refused-idle (miss_sense n) e = no e
-  refused-idle attend e = no e
-  refused-idle pass e = no e
-  refused-idle (reject s) e = no e
-  refused-idle (inquire n) e = no e
-  refused-idle (show_sense n) e = no e
-  refused-idle (show_page b n) e = no e
-  refused-idle (obey o) e = no e
+  refused_idle : (v : Verdict) → is_refused (reply w v h ps r) ≡ true → Idle v
+  refused_idle (refuse n) e = record { order = refl; host = λ x. refl }
+  refused_idle miss e = no e
+  refused_idle (miss_inquiry n) e = no e
+  refused_idle (miss_sense n) e = no e
+  refused_idle attend e = no e
+  refused_idle pass e = no e
+  refused_idle (reject s) e = no e
+  refused_idle (inquire n) e = no e
+  refused_idle (show_sense n) e = no e
+  refused_idle (show_page b n) e = no e
+  refused_idle (obey o) e = no e
 
-  check-no-order : (v : Verdict) → is_check (reply w v h ps r) ≡ true → order_in v ≡ None
-  check-no-order (refuse n) e = refl
-  check-no-order miss e = refl
-  check-no-order (miss_inquiry n) e = refl
-  check-no-order (miss_sense n) e = refl
-  check-no-order attend e = refl
-  check-no-order pass e = refl
-  check-no-order (reject s) e = refl
-  check-no-order (inquire n) e = refl
-  check-no-order (show_sense n) e = refl
-  check-no-order (show_page b n) e = refl
-  check-no-order (obey o) e = no e
+  check_no_order : (v : Verdict) → is_check (reply w v h ps r) ≡ true → order_in v ≡ None
+  check_no_order (refuse n) e = refl
+  check_no_order miss e = refl
+  check_no_order (miss_inquiry n) e = refl
+  check_no_order (miss_sense n) e = refl
+  check_no_order attend e = refl
+  check_no_order pass e = refl
+  check_no_order (reject s) e = refl
+  check_no_order (inquire n) e = refl
+  check_no_order (show_sense n) e = refl
+  check_no_order (show_page b n) e = refl
+  check_no_order (obey o) e = no e
 
-  check-no-bytes : (v : Verdict) → is_check (reply w v h ps r) ≡ true → sent_back (reply w v h ps r) ≡ []
-  check-no-bytes (refuse n) e = refl
-  check-no-bytes miss e = refl
-  check-no-bytes (miss_inquiry n) e = no e
-  check-no-bytes (miss_sense n) e = no e
-  check-no-bytes attend e = refl
-  check-no-bytes pass e = refl
-  check-no-bytes (reject s) e = refl
-  check-no-bytes (inquire n) e = no e
-  check-no-bytes (show_sense n) e = no e
-  check-no-bytes (show_page b n) e = no e
-  check-no-bytes (obey o) e = refl
+  check_no_bytes : (v : Verdict) → is_check (reply w v h ps r) ≡ true → sent_back (reply w v h ps r) ≡ []
+  check_no_bytes (refuse n) e = refl
+  check_no_bytes miss e = refl
+  check_no_bytes (miss_inquiry n) e = no e
+  check_no_bytes (miss_sense n) e = no e
+  check_no_bytes attend e = refl
+  check_no_bytes pass e = refl
+  check_no_bytes (reject s) e = refl
+  check_no_bytes (inquire n) e = no e
+  check_no_bytes (show_sense n) e = no e
+  check_no_bytes (show_page b n) e = no e
+  check_no_bytes (obey o) e = refl
 
 -- both ways of a test the same
 same_cond : {X : Type 0} (b : Bool) (x y : X) → x ≡ y → cond b x y ≡ y
@@ -108,13 +108,13 @@ refused_alters_nothing w unpowered reset r e = refl
 refused_alters_nothing w (powered s) reset r e = no (ap is_refused e)
 refused_alters_nothing w unpowered (command c) r e = refl
 refused_alters_nothing w (powered s) (command c) r e =
-    ap powered (idle_shelf w s c (refused-idle w (s.hosts c.host) s.parts s.rest (verdict w s c) (ap is_refused e)))
+    ap powered (idle_shelf w s c (refused_idle w (s.hosts c.host) s.parts s.rest (verdict w s c) (ap is_refused e)))
 
 pub check_alters_host : CheckAltersHost
 check_alters_host w s c bs e =
-    let o = check-no-order w (s.hosts c.host) s.parts s.rest (verdict w s c) (ap is_check e) in
+    let o = check_no_order w (s.hosts c.host) s.parts s.rest (verdict w s c) (ap is_check e) in
     record {
-      no_bytes = sym (ap sent_back e) ∙ check-no-bytes w (s.hosts c.host) s.parts s.rest (verdict w s c) (ap is_check e);
+      no_bytes = sym (ap sent_back e) ∙ check_no_bytes w (s.hosts c.host) s.parts s.rest (verdict w s c) (ap is_check e);
       after = commanded w s c;
       still = refl;
       same = record {

@@ -13,7 +13,7 @@ use Rattle.history.specs.Steps.{commanded, replied, verdict}
 use Rattle.history.specs.Hosts.{Alike, Apart, Only, OrdersAgree, Said, SameOrders, SameResults, after, byte_part, heard_by, is_global, names, of_host, said_by}
 use Rattle.history.proofs.Judged.{Judged, attends, inquires, judged, misses, misses_inquiry, misses_sense, obeys, passes, refuses, rejects, shows_page, shows_sense, writes_nothing}
 use Rattle.history.proofs.Effects.{shelf_path}
-use Rattle.history.proofs.PageBytes.{cut-byte, page-length}
+use Rattle.history.proofs.PageBytes.{cut_byte, page_length}
 use Rattle.history.proofs.Quiet.{quiet, rest_kept}
 
 -- a command that names the part is the host's
@@ -40,63 +40,63 @@ module _ (w : World) (h : ℕ) (all : List Command) where
   abbrev Own : Part → Type 0
   Own p = Only w h p all
 
-  abbrev Same-own : ((p : Part) → Value p) → ((p : Part) → Value p) → Type 0
-  Same-own ps qs = (p : Part) → Own p → ps p ≡ qs p
+  abbrev SameOwn : ((p : Part) → Value p) → ((p : Part) → Value p) → Type 0
+  SameOwn ps qs = (p : Part) → Own p → ps p ≡ qs p
 
-  abbrev Alike-answers : Command → Answer → Answer → Type 0
-  Alike-answers c a b = Alike w h all (said c a) (said c b)
+  abbrev AlikeAnswers : Command → Answer → Answer → Type 0
+  AlikeAnswers c a b = Alike w h all (said c a) (said c b)
 
-  same-said : (c : Command) (a : Answer) → Alike-answers c a a
-  same-said c a = record { asked = refl; heading = refl; bytes = (refl, λ k _. refl) }
+  same_said : (c : Command) (a : Answer) → AlikeAnswers c a a
+  same_said c a = record { asked = refl; heading = refl; bytes = (refl, λ k _. refl) }
 
-  alike : {b : Bool} {c : Command} {v : Verdict} → Judged w.configuration b c v → (x : Host) (r : Rest) (ps qs : (p : Part) → Value p) → Same-own ps qs →
-      Alike-answers c (reply w v x ps r) (reply w v x qs r)
-  alike {c = c} refuses x r ps qs e = same-said c _
-  alike {c = c} misses x r ps qs e = same-said c _
-  alike {c = c} (misses_inquiry _) x r ps qs e = same-said c _
-  alike {c = c} (misses_sense _) x r ps qs e = same-said c _
-  alike {c = c} (attends _) x r ps qs e = same-said c _
-  alike {c = c} (passes _) x r ps qs e = same-said c _
-  alike {c = c} (writes_nothing _) x r ps qs e = same-said c _
-  alike {c = c} rejects x r ps qs e = same-said c _
-  alike {c = c} (inquires _) x r ps qs e = same-said c _
-  alike {c = c} (shows_sense _) x r ps qs e = same-said c _
+  alike : {b : Bool} {c : Command} {v : Verdict} → Judged w.configuration b c v → (x : Host) (r : Rest) (ps qs : (p : Part) → Value p) → SameOwn ps qs →
+      AlikeAnswers c (reply w v x ps r) (reply w v x qs r)
+  alike {c = c} refuses x r ps qs e = same_said c _
+  alike {c = c} misses x r ps qs e = same_said c _
+  alike {c = c} (misses_inquiry _) x r ps qs e = same_said c _
+  alike {c = c} (misses_sense _) x r ps qs e = same_said c _
+  alike {c = c} (attends _) x r ps qs e = same_said c _
+  alike {c = c} (passes _) x r ps qs e = same_said c _
+  alike {c = c} (writes_nothing _) x r ps qs e = same_said c _
+  alike {c = c} rejects x r ps qs e = same_said c _
+  alike {c = c} (inquires _) x r ps qs e = same_said c _
+  alike {c = c} (shows_sense _) x r ps qs e = same_said c _
   alike {c = c} (shows_page o) x r ps qs e =
       record {
         asked = refl;
         heading = refl;
         bytes = (
-          simp (length-take, page-length w.configuration ps qs r (buffer_id c)),
-          λ k own. cut-byte w.configuration ps qs r (buffer_id c) _ k (λ p z. e p (own p (rw (eq-eqb (opcode c) 0x3C o) z))),
+          simp (length-take, page_length w.configuration ps qs r (buffer_id c)),
+          λ k own. cut_byte w.configuration ps qs r (buffer_id c) _ k (λ p z. e p (own p (rw (eq-eqb (opcode c) 0x3C o) z))),
         );
       }
-  alike {c = c} (obeys _ _) x r ps qs e = same-said c _
+  alike {c = c} (obeys _ _) x r ps qs e = same_said c _
 
   -- two shelves that look alike to the host
   record Agree (s t : Shelf) : Type 0 where
-    same-host : s.hosts h ≡ t.hosts h
+    same_host : s.hosts h ≡ t.hosts h
     same_rest : s.rest ≡ t.rest
-    same_parts : Same-own s.parts t.parts
+    same_parts : SameOwn s.parts t.parts
 
-  host-there : (s t : Shelf) (c : Command) → c.host ≡ h → Agree s t → s.hosts c.host ≡ t.hosts c.host
-  host-there s t c e a = ap s.hosts e ∙ a.same-host ∙ sym (ap t.hosts e)
+  host_there : (s t : Shelf) (c : Command) → c.host ≡ h → Agree s t → s.hosts c.host ≡ t.hosts c.host
+  host_there s t c e a = ap s.hosts e ∙ a.same_host ∙ sym (ap t.hosts e)
 
-  same-verdict : (s t : Shelf) (c : Command) → c.host ≡ h → Agree s t → verdict w s c ≡ verdict w t c
-  same-verdict s t c e a = ap (λ (x : Host). judge w.configuration x.attention c) (host-there s t c e a)
+  same_verdict : (s t : Shelf) (c : Command) → c.host ≡ h → Agree s t → verdict w s c ≡ verdict w t c
+  same_verdict s t c e a = ap (λ (x : Host). judge w.configuration x.attention c) (host_there s t c e a)
 
-  own-step : (s t : Shelf) (c : Command) → c.host ≡ h → Agree s t → Agree (commanded w s c) (commanded w t c)
-  own-step s t c e a =
-      let q = same-verdict s t c e a in
+  own_step : (s t : Shelf) (c : Command) → c.host ≡ h → Agree s t → Agree (commanded w s c) (commanded w t c)
+  own_step s t c e a =
+      let q = same_verdict s t c e a in
       record {
-        same-host = ap₂ (λ (v : Verdict) (x : Host). cond (eqb h c.host) (on_host v x) x) q a.same-host;
+        same_host = ap₂ (λ (v : Verdict) (x : Host). cond (eqb h c.host) (on_host v x) x) q a.same_host;
         same_rest = ap₂ (λ (v : Verdict) (r : Rest). acted_rest w.configuration (order_in v) r) q a.same_rest;
         same_parts = λ p o. ap₂ (λ (v : Verdict) (x : Value p). acted (order_in v) p x) q (a.same_parts p o);
       }
 
-  own-answer : (s t : Shelf) (c : Command) → c.host ≡ h → Agree s t → Alike-answers c (replied w s c) (replied w t c)
-  own-answer s t c e a =
-      let q = host-there s t c e a in
-      subst (λ (y : Answer). Alike-answers c (replied w s c) y)
+  own_answer : (s t : Shelf) (c : Command) → c.host ≡ h → Agree s t → AlikeAnswers c (replied w s c) (replied w t c)
+  own_answer s t c e a =
+      let q = host_there s t c e a in
+      subst (λ (y : Answer). AlikeAnswers c (replied w s c) y)
       (ap₂ (λ (x : Host) (r : Rest). reply w (judge w.configuration x.attention c) x t.parts r) q a.same_rest)
       (alike (judged w.configuration (s.hosts c.host).attention c) (s.hosts c.host) s.rest s.parts t.parts a.same_parts)
 
@@ -108,7 +108,7 @@ module _ (w : World) (h : ℕ) (all : List Command) where
   other_step s t c n g o a =
       let j = judged w.configuration (s.hosts c.host).attention c in
       record {
-        same-host = cond-false (eqb h c.host) _ _ (ne_eqb h c.host (λ e. n (sym e))) ∙ a.same-host;
+        same_host = cond-false (eqb h c.host) _ _ (ne_eqb h c.host (λ e. n (sym e))) ∙ a.same_host;
         same_rest = rest_kept j s.rest g ∙ a.same_rest;
         same_parts = λ p i. quiet j p (s.parts p) (not_named c p n (o p i)) ∙ a.same_parts p i;
       }
@@ -120,44 +120,44 @@ module _ (w : World) (h : ℕ) (all : List Command) where
   Plain = All (λ c. is_global c ≡ false)
 
   -- where the first command of a list is the host's own, and where it is not
-  solo-cases : (s t : Shelf) (c : Command) (cs : List Command) → Covers (c ∷ cs) → Plain (c ∷ cs) → Agree s t →
+  solo_cases : (s t : Shelf) (c : Command) (cs : List Command) → Covers (c ∷ cs) → Plain (c ∷ cs) → Agree s t →
       ((u : Shelf) → Agree (commanded w s c) u → AllZip (Alike w h all) (heard_by h (said_by w (powered (commanded w s c)) cs)) (said_by w (powered u) (of_host h cs))) →
       (b : Bool) → eqb c.host h ≡ b →
       AllZip (Alike w h all)
       (cond b (said c (replied w s c) ∷ heard_by h (said_by w (powered (commanded w s c)) cs)) (heard_by h (said_by w (powered (commanded w s c)) cs)))
       (said_by w (powered t) (cond b (c ∷ of_host h cs) (of_host h cs)))
-  solo-cases s t c cs o g a more true e = let k = eqb-true _ _ e in (own-answer s t c k a, more (commanded w t c) (own-step s t c k a))
-  solo-cases s t c cs o g a more false e = more t (other_step s t c (eqb-false _ _ e) (All-head NotGlobal c cs g) (λ p i. All-head (ItsHost w h p) c cs (o p i)) a)
+  solo_cases s t c cs o g a more true e = let k = eqb-true _ _ e in (own_answer s t c k a, more (commanded w t c) (own_step s t c k a))
+  solo_cases s t c cs o g a more false e = more t (other_step s t c (eqb-false _ _ e) (All-head NotGlobal c cs g) (λ p i. All-head (ItsHost w h p) c cs (o p i)) a)
 
   solo : (cs : List Command) (s t : Shelf) → Covers cs → Plain cs → Agree s t →
       AllZip (Alike w h all) (heard_by h (said_by w (powered s) cs)) (said_by w (powered t) (of_host h cs))
   solo [] s t o g a = tt
   solo (c ∷ cs) s t o g a =
-      solo-cases s t c cs o g a (λ u b. solo cs (commanded w s c) u (λ p i. All-tail (ItsHost w h p) c cs (o p i)) (All-tail NotGlobal c cs g) b) (eqb c.host h) refl
+      solo_cases s t c cs o g a (λ u b. solo cs (commanded w s c) u (λ p i. All-tail (ItsHost w h p) c cs (o p i)) (All-tail NotGlobal c cs g) b) (eqb c.host h) refl
 
-  end-cases : (s t : Shelf) (c : Command) (cs : List Command) → Covers (c ∷ cs) → Plain (c ∷ cs) → Agree s t →
+  end_cases : (s t : Shelf) (c : Command) (cs : List Command) → Covers (c ∷ cs) → Plain (c ∷ cs) → Agree s t →
       ((u : Shelf) → Agree (commanded w s c) u → Agree (end_of w (commanded w s c) cs) (end_of w u (of_host h cs))) →
       (b : Bool) → eqb c.host h ≡ b →
       Agree (end_of w (commanded w s c) cs) (end_of w t (cond b (c ∷ of_host h cs) (of_host h cs)))
-  end-cases s t c cs o g a more true e = more (commanded w t c) (own-step s t c (eqb-true _ _ e) a)
-  end-cases s t c cs o g a more false e = more t (other_step s t c (eqb-false _ _ e) (All-head NotGlobal c cs g) (λ p i. All-head (ItsHost w h p) c cs (o p i)) a)
+  end_cases s t c cs o g a more true e = more (commanded w t c) (own_step s t c (eqb-true _ _ e) a)
+  end_cases s t c cs o g a more false e = more t (other_step s t c (eqb-false _ _ e) (All-head NotGlobal c cs g) (λ p i. All-head (ItsHost w h p) c cs (o p i)) a)
 
   end : (cs : List Command) (s t : Shelf) → Covers cs → Plain cs → Agree s t → Agree (end_of w s cs) (end_of w t (of_host h cs))
   end [] s t o g a = a
   end (c ∷ cs) s t o g a =
-      end-cases s t c cs o g a (λ u b. end cs (commanded w s c) u (λ p i. All-tail (ItsHost w h p) c cs (o p i)) (All-tail NotGlobal c cs g) b) (eqb c.host h) refl
+      end_cases s t c cs o g a (λ u b. end cs (commanded w s c) u (λ p i. All-tail (ItsHost w h p) c cs (o p i)) (All-tail NotGlobal c cs g) b) (eqb c.host h) refl
 
   -- an unpowered shelf refuses every command
-  unpowered-cases : (c : Command) (cs : List Command) → AllZip (Alike w h all) (heard_by h (said_by w unpowered cs)) (said_by w unpowered (of_host h cs)) → (b : Bool)
+  unpowered_cases : (c : Command) (cs : List Command) → AllZip (Alike w h all) (heard_by h (said_by w unpowered cs)) (said_by w unpowered (of_host h cs)) → (b : Bool)
       → AllZip (Alike w h all)
       (cond b (said c (refused refusal.Unpowered) ∷ heard_by h (said_by w unpowered cs)) (heard_by h (said_by w unpowered cs)))
       (said_by w unpowered (cond b (c ∷ of_host h cs) (of_host h cs)))
-  unpowered-cases c cs more true = (same-said c (refused refusal.Unpowered), more)
-  unpowered-cases c cs more false = more
+  unpowered_cases c cs more true = (same_said c (refused refusal.Unpowered), more)
+  unpowered_cases c cs more false = more
 
-  unpowered-solo : (cs : List Command) → AllZip (Alike w h all) (heard_by h (said_by w unpowered cs)) (said_by w unpowered (of_host h cs))
-  unpowered-solo [] = tt
-  unpowered-solo (c ∷ cs) = unpowered-cases c cs (unpowered-solo cs) (eqb c.host h)
+  unpowered_solo : (cs : List Command) → AllZip (Alike w h all) (heard_by h (said_by w unpowered cs)) (said_by w unpowered (of_host h cs))
+  unpowered_solo [] = tt
+  unpowered_solo (c ∷ cs) = unpowered_cases c cs (unpowered_solo cs) (eqb c.host h)
 
 unpowered_ends : (w : World) (cs : List Command) → after w unpowered cs ≡ unpowered
 unpowered_ends w [] = refl
@@ -171,10 +171,10 @@ module _ (w : World) (p : Part) (all : List Command) where
   abbrev Unnamed : Command → Type 0
   Unnamed c = names w.configuration c p ≡ false
 
-  owner-in : (cs : List Command) → All (λ c. names w.configuration c p ≡ true → Only w c.host p all) cs →
+  owner_in : (cs : List Command) → All (λ c. names w.configuration c p ≡ true → Only w c.host p all) cs →
       ((h : ℕ) × Only w h p all) ⊎ All (λ c. names w.configuration c p ≡ false) cs
-  owner-in [] a = inr (All-nil Unnamed)
-  owner-in (c ∷ cs) a = go (cases_Bool (names w.configuration c p)) (owner-in cs (All-tail Owned c cs a))
+  owner_in [] a = inr (All-nil Unnamed)
+  owner_in (c ∷ cs) a = go (cases_Bool (names w.configuration c p)) (owner_in cs (All-tail Owned c cs a))
     where
       go : (names w.configuration c p ≡ true) ⊎ (names w.configuration c p ≡ false) →
           ((h : ℕ) × Only w h p all) ⊎ All (λ d. names w.configuration d p ≡ false) cs →
@@ -189,13 +189,13 @@ module _ (w : World) (p : Part) (all : List Command) where
       All-cons (ItsHost w 0 p) c cs (λ y. absurd (both_ways (names w.configuration c p) (All-head Unnamed c cs a) y)) (none_only cs (All-tail Unnamed c cs a))
 
 owner : (w : World) (p : Part) (cs : List Command) → All (λ c. names w.configuration c p ≡ true → Only w c.host p cs) cs → (h : ℕ) × Only w h p cs
-owner w p cs a = elim (owner-in w p cs cs a) [ inl h ↦ h | inr n ↦ (0, none_only w p cs cs n) ]
+owner w p cs a = elim (owner_in w p cs cs a) [ inl h ↦ h | inr n ↦ (0, none_only w p cs cs n) ]
 
 -- what holds of each command holds of each host's, and the other way round
 module _ (P : Command → Type 0) where
-  all-kept : (h : ℕ) (cs : List Command) → All P cs → All P (of_host h cs)
-  all-kept h [] a = All-nil P
-  all-kept h (c ∷ cs) a = go (eqb c.host h) (all-kept h cs (All-tail P c cs a))
+  all_kept : (h : ℕ) (cs : List Command) → All P cs → All P (of_host h cs)
+  all_kept h [] a = All-nil P
+  all_kept h (c ∷ cs) a = go (eqb c.host h) (all_kept h cs (All-tail P c cs a))
     where
       go : (b : Bool) → All P (of_host h cs) → All P (cond b (c ∷ of_host h cs) (of_host h cs))
       go true r = All-cons P c (of_host h cs) (All-head P c cs a) r
@@ -209,15 +209,15 @@ module _ (P : Command → Type 0) where
   all_head true c cs e a = All-head P c cs a
   all_head false c cs e a = absurd (both_ways false refl e)
 
-  all-by-hosts : (cs : List Command) → ((h : ℕ) → All P (of_host h cs)) → All P cs
-  all-by-hosts [] a = All-nil P
-  all-by-hosts (c ∷ cs) a =
+  all_by_hosts : (cs : List Command) → ((h : ℕ) → All P (of_host h cs)) → All P cs
+  all_by_hosts [] a = All-nil P
+  all_by_hosts (c ∷ cs) a =
       All-cons P c cs
       (all_head (eqb c.host c.host) c (of_host c.host cs) (eq-eqb _ _ refl) (a c.host))
-      (all-by-hosts cs (λ h. all_tail (eqb c.host h) c (of_host h cs) (a h)))
+      (all_by_hosts cs (λ h. all_tail (eqb c.host h) c (of_host h cs) (a h)))
 
   carried : (cs ds : List Command) → SameOrders cs ds → All P cs → All P ds
-  carried cs ds e a = all-by-hosts ds (λ h. subst (All P) (e h) (all-kept h cs a))
+  carried cs ds e a = all_by_hosts ds (λ h. subst (All P) (e h) (all_kept h cs a))
 
 -- two that are alike to a third
 module _ (w : World) (h : ℕ) (cs ds : List Command) (back : (p : Part) → Only w h p cs → Only w h p ds) where
@@ -242,7 +242,7 @@ module _ (w : World) (h : ℕ) (cs ds : List Command) (back : (p : Part) → Onl
   each_both (x ∷ xs) (y ∷ ys) (z ∷ zs) a b = (alike_both x y z a.0 b.0, each_both xs ys zs a.1 b.1)
 
 itself : (w : World) (h : ℕ) (cs : List Command) (s : Shelf) → Agree w h cs s s
-itself w h cs s = record { same-host = refl; same_rest = refl; same_parts = λ p o. refl }
+itself w h cs s = record { same_host = refl; same_rest = refl; same_parts = λ p o. refl }
 
 module _ (w : World) (cs ds : List Command) (g : All (λ c. is_global c ≡ false) cs) (e : SameOrders cs ds) (apart : Apart w cs) where
   to : (h : ℕ) (p : Part) → Only w h p cs → Only w h p ds
@@ -251,8 +251,8 @@ module _ (w : World) (cs ds : List Command) (g : All (λ c. is_global c ≡ fals
   plain : All (λ c. is_global c ≡ false) ds
   plain = carried (λ c. is_global c ≡ false) cs ds e g
 
-  powered-agree : (s : Shelf) → SameResults w (powered s) cs ds
-  powered-agree s =
+  powered_agree : (s : Shelf) → SameResults w (powered s) cs ds
+  powered_agree s =
       record {
         ends = ends_powered w s cs ∙ ap powered (shelf_path (end_of w s cs) (end_of w s ds) parts hosts rests) ∙ sym (ends_powered w s ds);
         answers = λ h.
@@ -273,20 +273,20 @@ module _ (w : World) (cs ds : List Command) (g : All (λ c. is_global c ≡ fals
           ∙ sym ((alone h ds plain).same_parts p (to h p o))
 
       hosts : (h : ℕ) → (end_of w s cs).hosts h ≡ (end_of w s ds).hosts h
-      hosts h = (alone h cs g).same-host ∙ ap (λ (xs : List Command). (end_of w s xs).hosts h) (e h) ∙ sym (alone h ds plain).same-host
+      hosts h = (alone h cs g).same_host ∙ ap (λ (xs : List Command). (end_of w s xs).hosts h) (e h) ∙ sym (alone h ds plain).same_host
 
       rests : (end_of w s cs).rest ≡ (end_of w s ds).rest
       rests = (alone 0 cs g).same_rest ∙ ap (λ (xs : List Command). (end_of w s xs).rest) (e 0) ∙ sym (alone 0 ds plain).same_rest
 
-  unpowered-agree : SameResults w unpowered cs ds
-  unpowered-agree =
+  unpowered_agree : SameResults w unpowered cs ds
+  unpowered_agree =
       record {
         ends = unpowered_ends w cs ∙ sym (unpowered_ends w ds);
         answers = λ h.
-            each_both w h cs ds (to h) _ _ (said_by w unpowered (of_host h cs)) (unpowered-solo w h cs cs)
-            (subst (λ (xs : List Command). AllZip (Alike w h ds) (heard_by h (said_by w unpowered ds)) (said_by w unpowered xs)) (sym (e h)) (unpowered-solo w h ds ds));
+            each_both w h cs ds (to h) _ _ (said_by w unpowered (of_host h cs)) (unpowered_solo w h cs cs)
+            (subst (λ (xs : List Command). AllZip (Alike w h ds) (heard_by h (said_by w unpowered ds)) (said_by w unpowered xs)) (sym (e h)) (unpowered_solo w h ds ds));
       }
 
 pub orders_agree : OrdersAgree
-orders_agree w unpowered cs ds g e apart = unpowered-agree w cs ds g e apart
-orders_agree w (powered s) cs ds g e apart = powered-agree w cs ds g e apart s
+orders_agree w unpowered cs ds g e apart = unpowered_agree w cs ds g e apart
+orders_agree w (powered s) cs ds g e apart = powered_agree w cs ds g e apart s

@@ -21,9 +21,9 @@ module _ (f : Configuration) (bs : List ℕ) where
   abbrev Told : Option Order → Type 0
   Told o = IfSome o (Ordered f bs)
 
-  operating-told : (o : Option Operation) → operation_of (get_or bs 2 0 % 8) ≡ o → get_or bs 0 0 ≡ 0x12 → 2 < length bs → get_or bs 1 0 < f.counts.slots → Told (operating (get_or bs 1 0) o)
-  operating-told (Some o) e k l m = twelve k l m e
-  operating-told None e k l m = tt
+  operating_told : (o : Option Operation) → operation_of (get_or bs 2 0 % 8) ≡ o → get_or bs 0 0 ≡ 0x12 → 2 < length bs → get_or bs 1 0 < f.counts.slots → Told (operating (get_or bs 1 0) o)
+  operating_told (Some o) e k l m = twelve k l m e
+  operating_told None e k l m = tt
 
   pub ordered : IfSome (order_of f bs) (Ordered f bs)
   ordered =
@@ -33,7 +33,7 @@ module _ (f : Configuration) (bs : List ℕ) where
       cond_both (eqb (get_or bs 0 0) 0x12) _ _ Told
       (λ k. cond_both (ltb (length bs) 3) _ _ Told (λ _. tt) λ l.
       cond_both (ltb (get_or bs 1 0) f.counts.slots) _ _ Told
-      (λ m. operating-told (operation_of (get_or bs 2 0 % 8)) refl (eqb-true _ _ k) (omega (arith, ltb-false _ _ l)) (ltb-true _ _ m)) (λ _. tt)) λ _.
+      (λ m. operating_told (operation_of (get_or bs 2 0 % 8)) refl (eqb-true _ _ k) (omega (arith, ltb-false _ _ l)) (ltb-true _ _ m)) (λ _. tt)) λ _.
       cond_both (eqb (get_or bs 0 0) 0x13) _ _ Told
       (λ k. cond_both (ltb (length bs) 3) _ _ Told (λ _. tt) λ l.
       cond_both (ltb (get_or bs 1 0) f.counts.fans && ltb (get_or bs 2 0) 5) _ _ Told
@@ -67,40 +67,40 @@ pub data Judged (f : Configuration) (b : Bool) (c : Command) : Verdict → Type 
   obeys : {o : Order} → Writes c → Ordered f (sent c) o → Judged f b c (obey o)
 
 module _ (f : Configuration) (b : Bool) (c : Command) where
-  obeying-judged : Writes c → (o : Option Order) → IfSome o (Ordered f (sent c)) → Judged f b c (obeying o)
-  obeying-judged k (Some o) e = obeys k e
-  obeying-judged k None e = rejects
+  obeying_judged : Writes c → (o : Option Order) → IfSome o (Ordered f (sent c)) → Judged f b c (obeying o)
+  obeying_judged k (Some o) e = obeys k e
+  obeying_judged k None e = rejects
 
-  write-judged : opcode c ≡ 0x3B → ill_formed c ≡ false → unit c ≡ 0 → Judged f b c (write_verdict f c)
-  write-judged k i u =
+  write_judged : opcode c ≡ 0x3B → ill_formed c ≡ false → unit c ≡ 0 → Judged f b c (write_verdict f c)
+  write_judged k i u =
       cond_both (eqb (mode c) 1) _ _ (Judged f b c)
       (λ m. cond_both (eqb (long_length c) 0) _ _ (Judged f b c) (λ z. writes_nothing (eqb-true _ _ z))
-      (λ _. obeying-judged (record { op = k; form = i; at = u; way = eqb-true _ _ m }) (order_of f (sent c)) (ordered f (sent c))))
+      (λ _. obeying_judged (record { op = k; form = i; at = u; way = eqb-true _ _ m }) (order_of f (sent c)) (ordered f (sent c))))
       (λ _. rejects)
 
-  read-judged : opcode c ≡ 0x3C → Judged f b c (read_verdict c)
-  read-judged k = cond_both (eqb (mode c) 1 && is_page (buffer_id c)) _ _ (Judged f b c) (λ _. shows_page k) (λ _. rejects)
+  read_judged : opcode c ≡ 0x3C → Judged f b c (read_verdict c)
+  read_judged k = cond_both (eqb (mode c) 1 && is_page (buffer_id c)) _ _ (Judged f b c) (λ _. shows_page k) (λ _. rejects)
 
-  passes-by : (eqb (opcode c) 0x00 || eqb (opcode c) 0x1D) ≡ true → eqb (opcode c) 0x3B ≡ false
-  passes-by e = go (opcode c) e
+  passes_by : (eqb (opcode c) 0x00 || eqb (opcode c) 0x1D) ≡ true → eqb (opcode c) 0x3B ≡ false
+  passes_by e = go (opcode c) e
     where
       go : (n : ℕ) → (eqb n 0x00 || eqb n 0x1D) ≡ true → eqb n 0x3B ≡ false
       go n h = grind arith
 
-  opcode-judged : ill_formed c ≡ false → unit c ≡ 0 → Judged f b c (opcode_verdict f c)
-  opcode-judged i u =
-      cond_both (eqb (opcode c) 0x00 || eqb (opcode c) 0x1D) _ _ (Judged f b c) (λ z. passes (passes-by z)) λ _.
-      cond_both (eqb (opcode c) 0x3B) _ _ (Judged f b c) (λ z. write-judged (eqb-true _ _ z) i u) λ _.
-      cond_both (eqb (opcode c) 0x3C) _ _ (Judged f b c) (λ z. read-judged (eqb-true _ _ z)) λ _. rejects
+  opcode_judged : ill_formed c ≡ false → unit c ≡ 0 → Judged f b c (opcode_verdict f c)
+  opcode_judged i u =
+      cond_both (eqb (opcode c) 0x00 || eqb (opcode c) 0x1D) _ _ (Judged f b c) (λ z. passes (passes_by z)) λ _.
+      cond_both (eqb (opcode c) 0x3B) _ _ (Judged f b c) (λ z. write_judged (eqb-true _ _ z) i u) λ _.
+      cond_both (eqb (opcode c) 0x3C) _ _ (Judged f b c) (λ z. read_judged (eqb-true _ _ z)) λ _. rejects
 
-  unit-judged : ill_formed c ≡ false → unit c ≡ 0 → Judged f b c (unit_verdict f b c)
-  unit-judged i u =
+  unit_judged : ill_formed c ≡ false → unit c ≡ 0 → Judged f b c (unit_verdict f b c)
+  unit_judged i u =
       cond_both (eqb (opcode c) 0x12) _ _ (Judged f b c) (λ z. inquires (eqb-true _ _ z)) λ _.
       cond_both (eqb (opcode c) 0x03) _ _ (Judged f b c) (λ z. shows_sense (eqb-true _ _ z)) λ _.
-      cond_both b _ _ (Judged f b c) (λ z. attends z) λ _. opcode-judged i u
+      cond_both b _ _ (Judged f b c) (λ z. attends z) λ _. opcode_judged i u
 
-  missed-judged : Judged f b c (missed c)
-  missed-judged =
+  missed_judged : Judged f b c (missed c)
+  missed_judged =
       cond_both (eqb (opcode c) 0x12) _ _ (Judged f b c) (λ z. misses_inquiry (eqb-true _ _ z)) λ _.
       cond_both (eqb (opcode c) 0x03) _ _ (Judged f b c) (λ z. misses_sense (eqb-true _ _ z)) λ _. misses
 
@@ -110,4 +110,4 @@ module _ (f : Configuration) (b : Bool) (c : Command) where
       cond_both (ill_formed c) _ _ (Judged f b c) (λ _. refuses) λ i.
       cond_both (eqb (opcode c) 0x3B && ltb (length c.payload) (long_length c)) _ _ (Judged f b c) (λ _. refuses) λ _.
       cond_both (ltb c.room 64) _ _ (Judged f b c) (λ _. refuses) λ _.
-      cond_both (eqb (unit c) 0) _ _ (Judged f b c) (λ u. unit-judged i (eqb-true _ _ u)) (λ _. missed-judged)
+      cond_both (eqb (unit c) 0) _ _ (Judged f b c) (λ u. unit_judged i (eqb-true _ _ u)) (λ _. missed_judged)

@@ -27,17 +27,17 @@ pub record Aspect (X : Type 0) (w : World) (first : Inputs → X) (ordered : Lis
 
 module _ (X : Type 0) (w : World) (first : Inputs → X) (ordered : List ℕ → Option X) (since : X → List Entry → List Entry → X) (get : Shelf → X)
     (a : Aspect X w first ordered since get) where
-  abbrev set-by : Entry → Option X
-  set-by = sets w first ordered
+  abbrev set_by : Entry → Option X
+  set_by = sets w first ordered
 
   abbrev Set : List Entry → X → Type 0
-  Set log x = LastSet X set-by since log x
+  Set log x = LastSet X set_by since log x
 
-  fresh : (e : Entry) (log : List Entry) (x : X) → set-by e ≡ Some x → Set (e ∷ log) x
+  fresh : (e : Entry) (log : List Entry) (x : X) → set_by e ≡ Some x → Set (e ∷ log) x
   fresh e log x s =
-      record { later = []; last = e; earlier = log; said = x; splits = refl; set_there = s; none_since = All-nil (λ (d : Entry). set-by d ≡ None); is = sym (a.start x (e ∷ log)) }
+      record { later = []; last = e; earlier = log; said = x; splits = refl; set_there = s; none_since = All-nil (λ (d : Entry). set_by d ≡ None); is = sym (a.start x (e ∷ log)) }
 
-  older : (e : Entry) (log : List Entry) (x : X) → set-by e ≡ None → Set log x → Set (e ∷ log) (a.moves e log x)
+  older : (e : Entry) (log : List Entry) (x : X) → set_by e ≡ None → Set log x → Set (e ∷ log) (a.moves e log x)
   older e log x s l =
       record {
         later = e ∷ l.later;
@@ -46,21 +46,21 @@ module _ (X : Type 0) (w : World) (first : Inputs → X) (ordered : List ℕ →
         said = l.said;
         splits = ap (λ (xs : List Entry). e ∷ xs) l.splits;
         set_there = l.set_there;
-        none_since = All-cons (λ (d : Entry). set-by d ≡ None) e l.later s l.none_since;
+        none_since = All-cons (λ (d : Entry). set_by d ≡ None) e l.later s l.none_since;
         is =
             ap (a.moves e log) l.is
             ∙ ap (λ (xs : List Entry). a.moves e xs (since l.said l.later (l.last ∷ l.earlier))) l.splits
             ∙ sym (a.more l.said e l.later (l.last ∷ l.earlier));
       }
 
-  next : (e : Entry) (log : List Entry) (x : X) → Set log x → Set (e ∷ log) (unwrap_or (set-by e) (a.moves e log x))
-  next e log x l = go (set-by e) refl
+  next : (e : Entry) (log : List Entry) (x : X) → Set log x → Set (e ∷ log) (unwrap_or (set_by e) (a.moves e log x))
+  next e log x l = go (set_by e) refl
     where
-      go : (o : Option X) → set-by e ≡ o → Set (e ∷ log) (unwrap_or o (a.moves e log x))
+      go : (o : Option X) → set_by e ≡ o → Set (e ∷ log) (unwrap_or o (a.moves e log x))
       go (Some y) q = fresh e log y q
       go None q = older e log x q l
 
-  refused_none : (c : Call) (r : Refusal) → set-by (entry c (refused r)) ≡ None
+  refused_none : (c : Call) (r : Refusal) → set_by (entry c (refused r)) ≡ None
   refused_none (power_on counts frame) r = refl
   refused_none (sample frame) r = refl
   refused_none reset r = refl

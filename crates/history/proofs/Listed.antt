@@ -41,12 +41,12 @@ module _ {X : Type 0} (m : ℕ) (lay : X → List ℕ) (wide : (x : X) → lengt
   more f n = sym (flat_map_more lay [] (listed f n) (f n))
 
   -- byte i is the same where the part that it belongs to is
-  pub run-same : (f g : ℕ → X) (n i : ℕ) → ((k : ℕ) → k < n → m * k ≤ i → i < m * k + m → f k ≡ g k) → get_or (flat_map lay (listed f n)) i 0 ≡ get_or (flat_map lay (listed g n)) i 0
-  run-same f g zero i e = refl
-  run-same f g (suc n) i e =
+  pub run_same : (f g : ℕ → X) (n i : ℕ) → ((k : ℕ) → k < n → m * k ≤ i → i < m * k + m → f k ≡ g k) → get_or (flat_map lay (listed f n)) i 0 ≡ get_or (flat_map lay (listed g n)) i 0
+  run_same f g zero i e = refl
+  run_same f g (suc n) i e =
       ap (λ (xs : List ℕ). get_or xs i 0) (more f n)
       ∙ append_same (flat_map lay (listed f n)) (flat_map lay (listed g n)) (lay (f n)) (lay (g n)) (m * n) i (run_length f n) (run_length g n)
-      (λ _. run-same f g n i (λ k h. e k (omega arith))) last
+      (λ _. run_same f g n i (λ k h. e k (omega arith))) last
       ∙ sym (ap (λ (xs : List ℕ). get_or xs i 0) (more g n))
     where
       last : m * n ≤ i → get_or (lay (f n)) (i - m * n) 0 ≡ get_or (lay (g n)) (i - m * n) 0

@@ -30,22 +30,22 @@ operated_state true identify x = refl
 operated_state false o x = refl
 
 module _ (w : World) (n : ℕ) where
-  state-ordered : {bs : List ℕ} {o : Order} → Ordered w.configuration bs o → (x : Slot) → (acted (Some o) (slot n) x).state ≡ moved_by (ordered_event n bs) x.state
-  state-ordered (ten k _ _) x = rw k (cond_both _ _ _ (λ (y : Slot). y.state ≡ x.state) (λ _. refl) (λ _. refl))
-  state-ordered {bs} (twelve {o = o} k _ _ e) x = rw (k, e) (operated_state (eqb n (get_or bs 1 0)) o x)
-  state-ordered (thirteen k _ _ _) x = rw k
-  state-ordered (fourteen k _ _ _) x = rw k
-  state-ordered (fifteen k) x = rw k
+  state_ordered : {bs : List ℕ} {o : Order} → Ordered w.configuration bs o → (x : Slot) → (acted (Some o) (slot n) x).state ≡ moved_by (ordered_event n bs) x.state
+  state_ordered (ten k _ _) x = rw k (cond_both _ _ _ (λ (y : Slot). y.state ≡ x.state) (λ _. refl) (λ _. refl))
+  state_ordered {bs} (twelve {o = o} k _ _ e) x = rw (k, e) (operated_state (eqb n (get_or bs 1 0)) o x)
+  state_ordered (thirteen k _ _ _) x = rw k
+  state_ordered (fourteen k _ _ _) x = rw k
+  state_ordered (fifteen k) x = rw k
 
-  effect-state : {c : Command} {a : Answer} {o : Option Order} → Effect w.configuration c a o → (x : Slot) → (acted o (slot n) x).state ≡ moved_by (ordered_event n (order_bytes c a)) x.state
-  effect-state (still e) x = rw e
-  effect-state (acts e k) x = rw e (state-ordered k x)
+  effect_state : {c : Command} {a : Answer} {o : Option Order} → Effect w.configuration c a o → (x : Slot) → (acted o (slot n) x).state ≡ moved_by (ordered_event n (order_bytes c a)) x.state
+  effect_state (still e) x = rw e
+  effect_state (acts e k) x = rw e (state_ordered k x)
 
-  refused-state : (c : Call) (r : Refusal) (log : List Entry) (x : PhysicalState) → moved_by (event_by w n c (refused r) log) x ≡ x
-  refused-state (power_on counts frame) r log x = refl
-  refused-state (sample frame) r log x = refl
-  refused-state reset r log x = refl
-  refused-state (command c) r log x = refl
+  refused_state : (c : Call) (r : Refusal) (log : List Entry) (x : PhysicalState) → moved_by (event_by w n c (refused r) log) x ≡ x
+  refused_state (power_on counts frame) r log x = refl
+  refused_state (sample frame) r log x = refl
+  refused_state reset r log x = refl
+  refused_state (command c) r log x = refl
 
   states : Aspect PhysicalState w (λ q. first_state (q.present n)) (λ _. None) (moved_since w n) (λ s. (s.parts (slot n)).state)
   states =
@@ -57,8 +57,8 @@ module _ (w : World) (n : ℕ) where
         at_start = λ counts q. first_is (q.present n);
         at_sample = λ s log frame q e f. rw (e, f) (sampled_state (s.rest.inputs.present n) (q.present n) (s.parts (slot n)));
         at_reset = λ s log. refl;
-        at_command = λ s log c. effect-state (effect w s c) (s.parts (slot n));
-        at_refusal = refused-state;
+        at_command = λ s log c. effect_state (effect w s c) (s.parts (slot n));
+        at_refusal = refused_state;
       }
 
 pub states_kept : StatesKept

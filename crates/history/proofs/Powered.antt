@@ -11,20 +11,20 @@ module _ (w : World) (b : Bool) where
   abbrev After : Call → Outcome → Type 0
   After c o = is_powered o.state ≡ (powers_on c o.answer || b)
 
-  powered-after : (s : State) (counts frame : List ℕ) → is_powered s ≡ b → (o : Option Inputs) → After (power_on counts frame) (powered_by s counts o)
-  powered-after s counts frame h (Some q) = refl
-  powered-after s counts frame h None = h
+  powered_after : (s : State) (counts frame : List ℕ) → is_powered s ≡ b → (o : Option Inputs) → After (power_on counts frame) (powered_by s counts o)
+  powered_after s counts frame h (Some q) = refl
+  powered_after s counts frame h None = h
 
-  sampled-after : (s : Shelf) (frame : List ℕ) → true ≡ b → (o : Option Inputs) → After (sample frame) (sampled_by s o)
-  sampled-after s frame h (Some q) = h
-  sampled-after s frame h None = h
+  sampled_after : (s : Shelf) (frame : List ℕ) → true ≡ b → (o : Option Inputs) → After (sample frame) (sampled_by s o)
+  sampled_after s frame h (Some q) = h
+  sampled_after s frame h None = h
 
   step_after : (s : State) (c : Call) → is_powered s ≡ b → After c (step w s c)
   step_after s (power_on counts frame) h =
       cond_both (eqb w.configuration.counts.slots 0) _ _ (After (power_on counts frame)) (λ _. h) λ _.
-      cond_both (eqb (length counts) w.configuration.counts.slots) _ _ (After (power_on counts frame)) (λ _. powered-after s counts frame h (w.reading frame)) (λ _. h)
+      cond_both (eqb (length counts) w.configuration.counts.slots) _ _ (After (power_on counts frame)) (λ _. powered_after s counts frame h (w.reading frame)) (λ _. h)
   step_after unpowered (sample frame) h = h
-  step_after (powered s) (sample frame) h = sampled-after s frame h (w.reading frame)
+  step_after (powered s) (sample frame) h = sampled_after s frame h (w.reading frame)
   step_after unpowered reset h = h
   step_after (powered s) reset h = h
   step_after unpowered (command c) h = h

@@ -71,14 +71,14 @@ module _ (w : World) where
   abbrev Seen : Shelf → List Entry → Type 0
   Seen s log = PresenceLastSeen w log s
 
-  refused-frame : (c : Call) (r : Refusal) (log : List Entry) → last_frame w (entry c (refused r) ∷ log) ≡ last_frame w log
-  refused-frame (power_on counts frame) r log = refl
-  refused-frame (sample frame) r log = refl
-  refused-frame reset r log = refl
-  refused-frame (command c) r log = refl
+  refused_frame : (c : Call) (r : Refusal) (log : List Entry) → last_frame w (entry c (refused r) ∷ log) ≡ last_frame w log
+  refused_frame (power_on counts frame) r log = refl
+  refused_frame (sample frame) r log = refl
+  refused_frame reset r log = refl
+  refused_frame (command c) r log = refl
 
-  inputs-after : (s : Shelf) (c : Command) → (commanded w s c).rest.inputs ≡ s.rest.inputs
-  inputs-after s c = acted_inputs w.configuration (order_in (verdict w s c)) s.rest
+  inputs_after : (s : Shelf) (c : Command) → (commanded w s c).rest.inputs ≡ s.rest.inputs
+  inputs_after s c = acted_inputs w.configuration (order_in (verdict w s c)) s.rest
 
   pub seen : Along w (λ s log. PresenceLastSeen w log s)
   seen =
@@ -90,10 +90,10 @@ module _ (w : World) where
         };
         resets = λ s log h. record { frame = h.frame; present = h.present };
         commands = λ s log c h. record {
-          frame = h.frame ∙ ap (λ (q : Inputs). Some q) (sym (inputs-after s c));
-          present = λ n. ap (λ (q : Inputs). q.present n) (inputs-after s c) ∙ h.present n ∙ sym (acted_in (order_in (verdict w s c)) n (s.parts (slot n)));
+          frame = h.frame ∙ ap (λ (q : Inputs). Some q) (sym (inputs_after s c));
+          present = λ n. ap (λ (q : Inputs). q.present n) (inputs_after s c) ∙ h.present n ∙ sym (acted_in (order_in (verdict w s c)) n (s.parts (slot n)));
         };
-        refusals = λ s log c r h. record { frame = refused-frame c r log ∙ h.frame; present = h.present };
+        refusals = λ s log c r h. record { frame = refused_frame c r log ∙ h.frame; present = h.present };
       }
 
 pub presence_kept : PresenceKept

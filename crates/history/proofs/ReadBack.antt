@@ -36,11 +36,11 @@ use Rattle.history.proofs.Rows.{records_fine}
 
 -- a shelf that a list of calls powers on has a slot
 module _ (w : World) where
-  abbrev Has-slot : Shelf → List Entry → Type 0
-  Has-slot s log = eqb w.configuration.counts.slots 0 ≡ false
+  abbrev HasSlot : Shelf → List Entry → Type 0
+  HasSlot s log = eqb w.configuration.counts.slots 0 ≡ false
 
-  has-slot : Along w Has-slot
-  has-slot =
+  has_slot : Along w HasSlot
+  has_slot =
       record {
         starts = λ log counts frame q z e. z;
         samples = λ s log frame q e h. h;
@@ -49,8 +49,8 @@ module _ (w : World) where
         refusals = λ s log c r h. h;
       }
 
-  pub some-slot : (calls : List Call) (s : Shelf) → (history w calls).state ≡ powered s → 0 < w.configuration.counts.slots
-  some-slot calls s e = at_least w.configuration.counts.slots (eqb-false _ _ (along w Has-slot has-slot calls s e))
+  pub some_slot : (calls : List Call) (s : Shelf) → (history w calls).state ≡ powered s → 0 < w.configuration.counts.slots
+  some_slot calls s e = at_least w.configuration.counts.slots (eqb-false _ _ (along w HasSlot has_slot calls s e))
     where
       at_least : (n : ℕ) → (n ≡ 0 → ⊥) → 0 < n
       at_least zero h = absurd (h refl)
@@ -102,72 +102,72 @@ shown_alike : (s : Slot) (g : Fine s.row) → slot_laid (shown s g) ≡ slot_byt
 shown_alike s g = ap (λ (b : ℕ). s.row.flags ∷ s.row.more ∷ b ∷ state_byte s.state ∷ []) (sym g.last)
 
 module _ (f : Configuration) (s : Shelf) (bounded : Bounded f) (some : 0 < f.counts.slots) (fine : (n : ℕ) → Fine (s.parts (slot n)).row) where
-  abbrev page-at : ℕ → List ℕ
-  page-at b = page_bytes f b s.parts s.rest
+  abbrev page_at : ℕ → List ℕ
+  page_at b = page_bytes f b s.parts s.rest
 
   -- part k of each run
-  abbrev fan-shown : ℕ → FanCode
-  fan-shown k = fan_of (s.rest.inputs.fan k)
+  abbrev fan_shown : ℕ → FanCode
+  fan_shown k = fan_of (s.rest.inputs.fan k)
 
-  abbrev supply-shown : ℕ → SupplyCode
-  supply-shown k = supply_of (s.rest.inputs.supply k) (s.parts (supply k))
+  abbrev supply_shown : ℕ → SupplyCode
+  supply_shown k = supply_of (s.rest.inputs.supply k) (s.parts (supply k))
 
-  abbrev id-shown : ℕ → PlainByte
-  id-shown k = record { 0 = get_or f.ids k 0 }
+  abbrev id_shown : ℕ → PlainByte
+  id_shown k = record { 0 = get_or f.ids k 0 }
 
   abbrev heat_shown : ℕ → PlainByte
   heat_shown k = record { 0 = s.rest.inputs.temperature k }
 
-  abbrev insertion-shown : ℕ → InsertionCount
-  insertion-shown k = record { 0 = s.rest.counts k }
+  abbrev insertion_shown : ℕ → InsertionCount
+  insertion_shown k = record { 0 = s.rest.counts k }
 
-  abbrev slot-shown : ℕ → Shown
-  slot-shown k = shown (s.parts (slot k)) (fine k)
+  abbrev slot_shown : ℕ → Shown
+  slot_shown k = shown (s.parts (slot k)) (fine k)
 
-  fans-long : length (listed fan-shown f.counts.fans) ≡ f.counts.fans
-  fans-long = listed_length fan-shown f.counts.fans
+  fans_long : length (listed fan_shown f.counts.fans) ≡ f.counts.fans
+  fans_long = listed_length fan_shown f.counts.fans
 
-  supplies-long : length (listed supply-shown f.counts.supplies) ≡ f.counts.supplies
-  supplies-long = listed_length supply-shown f.counts.supplies
+  supplies_long : length (listed supply_shown f.counts.supplies) ≡ f.counts.supplies
+  supplies_long = listed_length supply_shown f.counts.supplies
 
-  ids-long : length (listed id-shown f.counts.slots) ≡ f.counts.slots
-  ids-long = listed_length id-shown f.counts.slots
+  ids_long : length (listed id_shown f.counts.slots) ≡ f.counts.slots
+  ids_long = listed_length id_shown f.counts.slots
 
-  counts-there : counts_of (page-at 0) ≡ Ok f.counts
-  counts-there = page_counts f bounded some
+  counts_there : counts_of (page_at 0) ≡ Ok f.counts
+  counts_there = page_counts f bounded some
 
-  status-runs : StatusPartsRead (status_of f s.parts s.rest) (page-at 0) (page-at 1)
-  status-runs =
-      status_back (status_of f s.parts s.rest) (page-at 1) (page-at 1) (fills (page-at 1)) (omega arith) (page-at 0) f.counts counts-there
-      (record { fans = sym fans-long; supplies = sym supplies-long; slots = sym ids-long; sensors = sym (listed_length heat_shown f.counts.sensors) })
+  status_runs : StatusPartsRead (status_of f s.parts s.rest) (page_at 0) (page_at 1)
+  status_runs =
+      status_back (status_of f s.parts s.rest) (page_at 1) (page_at 1) (fills (page_at 1)) (omega arith) (page_at 0) f.counts counts_there
+      (record { fans = sym fans_long; supplies = sym supplies_long; slots = sym ids_long; sensors = sym (listed_length heat_shown f.counts.sensors) })
 
-  insertion-run : HandedOut count_laid 2 (page-at 0) (page-at 3) Counts 0 (listed insertion-shown f.counts.slots)
-  insertion-run =
-      insertions_back (listed insertion-shown f.counts.slots) (page-at 3) (page-at 3) (fills (page-at 3)) (omega arith)
-      (page-at 0) f.counts counts-there (sym (listed_length insertion-shown f.counts.slots))
+  insertion_run : HandedOut count_laid 2 (page_at 0) (page_at 3) Counts 0 (listed insertion_shown f.counts.slots)
+  insertion_run =
+      insertions_back (listed insertion_shown f.counts.slots) (page_at 3) (page_at 3) (fills (page_at 3)) (omega arith)
+      (page_at 0) f.counts counts_there (sym (listed_length insertion_shown f.counts.slots))
 
-  slots-alike : slots_page (listed slot-shown f.counts.slots) ≡ page-at 4
-  slots-alike =
+  slots_alike : slots_page (listed slot_shown f.counts.slots) ≡ page_at 4
+  slots_alike =
       ap (λ (bs : List ℕ). bs ++ (0 ∷ []))
-      (run_alike slot_laid slot_bytes slot-shown (λ k. s.parts (slot k)) (λ k. shown_alike (s.parts (slot k)) (fine k)) f.counts.slots)
+      (run_alike slot_laid slot_bytes slot_shown (λ k. s.parts (slot k)) (λ k. shown_alike (s.parts (slot k)) (fine k)) f.counts.slots)
 
-  slot-run : HandedOut slot_laid 4 (page-at 0) (page-at 4) Slots 0 (listed slot-shown f.counts.slots)
-  slot-run =
-      slots_back (listed slot-shown f.counts.slots) (page-at 4) (page-at 4)
-      (fills (page-at 4) ∙ sym (ap (λ (bs : List ℕ). laid_front bs (page-at 4)) slots-alike)) (omega (arith, ap length slots-alike))
-      (page-at 0) f.counts counts-there (sym (listed_length slot-shown f.counts.slots))
+  slot_run : HandedOut slot_laid 4 (page_at 0) (page_at 4) Slots 0 (listed slot_shown f.counts.slots)
+  slot_run =
+      slots_back (listed slot_shown f.counts.slots) (page_at 4) (page_at 4)
+      (fills (page_at 4) ∙ sym (ap (λ (bs : List ℕ). laid_front bs (page_at 4)) slots_alike)) (omega (arith, ap length slots_alike))
+      (page_at 0) f.counts counts_there (sym (listed_length slot_shown f.counts.slots))
 
-  whole-pages : PartsOf f s (page-at 0) (page-at 1) (page-at 3) (page-at 4)
-  whole-pages =
+  whole_pages : PartsOf f s (page_at 0) (page_at 1) (page_at 3) (page_at 4)
+  whole_pages =
       record {
-        fans = λ n l. from_run fan_laid 1 (page-at 0) (page-at 1) Fans _ fan-shown f.counts.fans status-runs.fans n _ l (omega arith);
-        supplies = λ n l. from_run supply_laid 1 (page-at 0) (page-at 1) Supplies _ supply-shown f.counts.supplies status-runs.supplies n _ l (omega (arith, fans-long));
-        ids = λ n l. from_run byte_laid 1 (page-at 0) (page-at 1) Ids _ id-shown f.counts.slots status-runs.ids n _ l (omega (arith, fans-long, supplies-long));
-        temperatures = λ n l. from_run byte_laid 1 (page-at 0) (page-at 1) Temperatures _ heat_shown f.counts.sensors status-runs.temperatures n _ l (omega (arith, fans-long, supplies-long, ids-long));
+        fans = λ n l. from_run fan_laid 1 (page_at 0) (page_at 1) Fans _ fan_shown f.counts.fans status_runs.fans n _ l (omega arith);
+        supplies = λ n l. from_run supply_laid 1 (page_at 0) (page_at 1) Supplies _ supply_shown f.counts.supplies status_runs.supplies n _ l (omega (arith, fans_long));
+        ids = λ n l. from_run byte_laid 1 (page_at 0) (page_at 1) Ids _ id_shown f.counts.slots status_runs.ids n _ l (omega (arith, fans_long, supplies_long));
+        temperatures = λ n l. from_run byte_laid 1 (page_at 0) (page_at 1) Temperatures _ heat_shown f.counts.sensors status_runs.temperatures n _ l (omega (arith, fans_long, supplies_long, ids_long));
         slots = λ n l.
-            from_run slot_laid 4 (page-at 0) (page-at 4) Slots 0 slot-shown f.counts.slots slot-run n (n * 4) l (omega arith)
+            from_run slot_laid 4 (page_at 0) (page_at 4) Slots 0 slot_shown f.counts.slots slot_run n (n * 4) l (omega arith)
             ∙ ap (λ (bs : List ℕ). handed (n * 4) bs) (shown_alike (s.parts (slot n)) (fine n));
-        counts = λ n l. from_run count_laid 2 (page-at 0) (page-at 3) Counts 0 insertion-shown f.counts.slots insertion-run n _ l (omega arith);
+        counts = λ n l. from_run count_laid 2 (page_at 0) (page_at 3) Counts 0 insertion_shown f.counts.slots insertion_run n _ l (omega arith);
       }
 
 -- a page that is cut at its length or past it is the page
@@ -181,4 +181,4 @@ uncut f s p₀ p₁ p₃ p₄ q₀ q₁ q₃ q₄ a b c d x =
 pub pages_read_back : PagesReadBack
 pages_read_back w calls s bounded e a b c d la lb lc ld =
     uncut w.configuration s _ _ _ _ _ _ _ _ (take_all a (page w s 0) la) (take_all b (page w s 1) lb) (take_all c (page w s 3) lc) (take_all d (page w s 4) ld)
-    (whole-pages w.configuration s bounded (some-slot w calls s e) (λ n. records_fine w calls s n e))
+    (whole_pages w.configuration s bounded (some_slot w calls s e) (λ n. records_fine w calls s n e))

@@ -73,25 +73,25 @@ sampled_row false true x = refl
 sampled_row false false x = refl
 
 module _ (w : World) (n : ℕ) (l : n < w.configuration.counts.slots) where
-  row-ordered : {bs : List ℕ} {o : Order} → Ordered w.configuration bs o → (x : Slot) → (acted (Some o) (slot n) x).row ≡ unwrap_or (ordered_row n bs) x.row
-  row-ordered {bs} (ten k _ _) x =
+  row_ordered : {bs : List ℕ} {o : Order} → Ordered w.configuration bs o → (x : Slot) → (acted (Some o) (slot n) x).row ≡ unwrap_or (ordered_row n bs) x.row
+  row_ordered {bs} (ten k _ _) x =
       ap (λ (t : Row). (cond (flagged t) (with_row (stored t) x) x).row) (triple_within w.configuration.counts.slots (drop 1 bs) n l)
       ∙ rw k (go (flagged (triple_in (drop 1 bs) n)))
     where
       go : (b : Bool) → (cond b (with_row (stored (triple_in (drop 1 bs) n)) x) x).row ≡ unwrap_or (cond b (Some (stored (triple_in (drop 1 bs) n))) None) x.row
       go true = refl
       go false = refl
-  row-ordered {bs} (twelve {o = o} k _ _ _) x =
+  row_ordered {bs} (twelve {o = o} k _ _ _) x =
       rw k (cond_both (eqb n (get_or bs 1 0)) _ _ (λ (y : Slot). y.row ≡ x.row) (λ _. operated_row o x) (λ _. refl))
-  row-ordered (thirteen k _ _ _) x = rw k
-  row-ordered (fourteen k _ _ _) x = rw k
-  row-ordered (fifteen k) x = rw k
+  row_ordered (thirteen k _ _ _) x = rw k
+  row_ordered (fourteen k _ _ _) x = rw k
+  row_ordered (fifteen k) x = rw k
 
-  refused-row : (c : Call) (r : Refusal) (log : List Entry) (x : Row) → once (puts_in w n (entry c (refused r)) log) x ≡ x
-  refused-row (power_on counts frame) r log x = refl
-  refused-row (sample frame) r log x = refl
-  refused-row reset r log x = refl
-  refused-row (command c) r log x = refl
+  refused_row : (c : Call) (r : Refusal) (log : List Entry) (x : Row) → once (puts_in w n (entry c (refused r)) log) x ≡ x
+  refused_row (power_on counts frame) r log x = refl
+  refused_row (sample frame) r log x = refl
+  refused_row reset r log x = refl
+  refused_row (command c) r log x = refl
 
   rows : Aspect Row w (λ q. first_row (q.present n)) (ordered_row n) (unconfigured_since w n) (λ s. (s.parts (slot n)).row)
   rows =
@@ -106,8 +106,8 @@ module _ (w : World) (n : ℕ) (l : n < w.configuration.counts.slots) where
             sampled_row (s.rest.inputs.present n) (q.present n) (s.parts (slot n)) ∙ ap (λ (b : Bool). once b (s.parts (slot n)).row) (sym put);
         at_reset = λ s log. refl;
         at_command = λ s log c.
-            by_effect (ordered_row n) refl (λ o. (acted o (slot n) (s.parts (slot n))).row) _ refl (λ _ _ k. row-ordered k (s.parts (slot n))) (effect w s c);
-        at_refusal = refused-row;
+            by_effect (ordered_row n) refl (λ o. (acted o (slot n) (s.parts (slot n))).row) _ refl (λ _ _ k. row_ordered k (s.parts (slot n))) (effect w s c);
+        at_refusal = refused_row;
       }
 
 pub records_kept : RecordsKept
@@ -173,10 +173,10 @@ first_fine true = record { rebuild = refl; more = omega arith; last = refl }
 first_fine false = record { rebuild = refl; more = omega arith; last = refl }
 
 module _ (w : World) where
-  abbrev All-fine : Shelf → List Entry → Type 0
-  All-fine s log = (n : ℕ) → Fine (s.parts (slot n)).row
+  abbrev AllFine : Shelf → List Entry → Type 0
+  AllFine s log = (n : ℕ) → Fine (s.parts (slot n)).row
 
-  fine : Along w All-fine
+  fine : Along w AllFine
   fine =
       record {
         starts = λ log counts frame q z e n. first_fine (q.present n);
@@ -187,4 +187,4 @@ module _ (w : World) where
       }
 
 pub records_fine : RecordsFine
-records_fine w calls s n e = along w (All-fine w) (fine w) calls s e n
+records_fine w calls s n e = along w (AllFine w) (fine w) calls s e n

@@ -41,48 +41,48 @@ module _ (X : Type 0) (w : World) (first : X) (ordered : List ℕ → Option X) 
 -- orders
 
 module _ (f : Configuration) (n : ℕ) where
-  speed-ordered : {bs : List ℕ} {o : Order} → Ordered f bs o → (x : ℕ) → acted (Some o) (fan n) x ≡ unwrap_or (ordered_speed n bs) x
-  speed-ordered (ten k _ _) x = rw k
-  speed-ordered (twelve k _ _ _) x = rw k
-  speed-ordered {bs} (thirteen k _ _ _) x = rw k (if_some (eqb n (get_or bs 1 0)) (get_or bs 2 0) x)
-  speed-ordered (fourteen k _ _ _) x = rw k
-  speed-ordered (fifteen k) x = rw k
+  speed_ordered : {bs : List ℕ} {o : Order} → Ordered f bs o → (x : ℕ) → acted (Some o) (fan n) x ≡ unwrap_or (ordered_speed n bs) x
+  speed_ordered (ten k _ _) x = rw k
+  speed_ordered (twelve k _ _ _) x = rw k
+  speed_ordered {bs} (thirteen k _ _ _) x = rw k (if_some (eqb n (get_or bs 1 0)) (get_or bs 2 0) x)
+  speed_ordered (fourteen k _ _ _) x = rw k
+  speed_ordered (fifteen k) x = rw k
 
-  supply-ordered : {bs : List ℕ} {o : Order} → Ordered f bs o → (x : Bool) → acted (Some o) (supply n) x ≡ unwrap_or (ordered_supply n bs) x
-  supply-ordered (ten k _ _) x = rw k
-  supply-ordered (twelve k _ _ _) x = rw k
-  supply-ordered (thirteen k _ _ _) x = rw k
-  supply-ordered {bs} (fourteen k _ _ _) x = rw k (if_some (eqb n (get_or bs 1 0)) (eqb (get_or bs 2 0) 1) x)
-  supply-ordered (fifteen k) x = rw k
+  supply_ordered : {bs : List ℕ} {o : Order} → Ordered f bs o → (x : Bool) → acted (Some o) (supply n) x ≡ unwrap_or (ordered_supply n bs) x
+  supply_ordered (ten k _ _) x = rw k
+  supply_ordered (twelve k _ _ _) x = rw k
+  supply_ordered (thirteen k _ _ _) x = rw k
+  supply_ordered {bs} (fourteen k _ _ _) x = rw k (if_some (eqb n (get_or bs 1 0)) (eqb (get_or bs 2 0) 1) x)
+  supply_ordered (fifteen k) x = rw k
 
-  operated-identify : (b : Bool) (o : Operation) (x : Slot) → (cond b (operated o x) x).identify ≡ unwrap_or (cond b (identifies (Some o)) None) x.identify
-  operated-identify true idle x = refl
-  operated-identify true prepare x = refl
-  operated-identify true release x = refl
-  operated-identify true identify x = refl
-  operated-identify false o x = refl
+  operated_identify : (b : Bool) (o : Operation) (x : Slot) → (cond b (operated o x) x).identify ≡ unwrap_or (cond b (identifies (Some o)) None) x.identify
+  operated_identify true idle x = refl
+  operated_identify true prepare x = refl
+  operated_identify true release x = refl
+  operated_identify true identify x = refl
+  operated_identify false o x = refl
 
-  identify-ordered : {bs : List ℕ} {o : Order} → Ordered f bs o → (x : Slot) → (acted (Some o) (slot n) x).identify ≡ unwrap_or (ordered_identify n bs) x.identify
-  identify-ordered (ten k _ _) x = rw k (cond_both _ _ _ (λ (y : Slot). y.identify ≡ x.identify) (λ _. refl) (λ _. refl))
-  identify-ordered {bs} (twelve {o = o} k _ _ e) x = rw (k, e) (operated-identify (eqb n (get_or bs 1 0)) o x)
-  identify-ordered (thirteen k _ _ _) x = rw k
-  identify-ordered (fourteen k _ _ _) x = rw k
-  identify-ordered (fifteen k) x = rw k
+  identify_ordered : {bs : List ℕ} {o : Order} → Ordered f bs o → (x : Slot) → (acted (Some o) (slot n) x).identify ≡ unwrap_or (ordered_identify n bs) x.identify
+  identify_ordered (ten k _ _) x = rw k (cond_both _ _ _ (λ (y : Slot). y.identify ≡ x.identify) (λ _. refl) (λ _. refl))
+  identify_ordered {bs} (twelve {o = o} k _ _ e) x = rw (k, e) (operated_identify (eqb n (get_or bs 1 0)) o x)
+  identify_ordered (thirteen k _ _ _) x = rw k
+  identify_ordered (fourteen k _ _ _) x = rw k
+  identify_ordered (fifteen k) x = rw k
 
 module _ (f : Configuration) where
-  alarm-ordered : {bs : List ℕ} {o : Order} → Ordered f bs o → (r : Rest) → (acted_rest f (Some o) r).alarm ≡ unwrap_or (ordered_alarm f bs) r.alarm
-  alarm-ordered (ten k _ _) r = rw k
-  alarm-ordered (twelve k _ _ _) r = rw k
-  alarm-ordered (thirteen k _ _ _) r = rw k
-  alarm-ordered (fourteen k _ _ _) r = rw k
-  alarm-ordered {bs} (fifteen k) r = rw k (if_some f.alarm (bit 0 (get_or bs 1 0)) r.alarm)
+  alarm_ordered : {bs : List ℕ} {o : Order} → Ordered f bs o → (r : Rest) → (acted_rest f (Some o) r).alarm ≡ unwrap_or (ordered_alarm f bs) r.alarm
+  alarm_ordered (ten k _ _) r = rw k
+  alarm_ordered (twelve k _ _ _) r = rw k
+  alarm_ordered (thirteen k _ _ _) r = rw k
+  alarm_ordered (fourteen k _ _ _) r = rw k
+  alarm_ordered {bs} (fifteen k) r = rw k (if_some f.alarm (bit 0 (get_or bs 1 0)) r.alarm)
 
-  lock-ordered : {bs : List ℕ} {o : Order} → Ordered f bs o → (r : Rest) → (acted_rest f (Some o) r).lock ≡ unwrap_or (ordered_lock f bs) r.lock
-  lock-ordered (ten k _ _) r = rw k
-  lock-ordered (twelve k _ _ _) r = rw k
-  lock-ordered (thirteen k _ _ _) r = rw k
-  lock-ordered (fourteen k _ _ _) r = rw k
-  lock-ordered {bs} (fifteen k) r = rw k (if_some f.lock (bit 2 (get_or bs 2 0)) r.lock)
+  lock_ordered : {bs : List ℕ} {o : Order} → Ordered f bs o → (r : Rest) → (acted_rest f (Some o) r).lock ≡ unwrap_or (ordered_lock f bs) r.lock
+  lock_ordered (ten k _ _) r = rw k
+  lock_ordered (twelve k _ _ _) r = rw k
+  lock_ordered (thirteen k _ _ _) r = rw k
+  lock_ordered (fourteen k _ _ _) r = rw k
+  lock_ordered {bs} (fifteen k) r = rw k (if_some f.lock (bit 2 (get_or bs 2 0)) r.lock)
 
 -- commands: by their accepted order, if there is one
 
@@ -107,17 +107,17 @@ settings_kept w calls s e =
     record {
       speeds = λ n. last_set ℕ w (λ _. 4) (ordered_speed n) as_set (λ t. t.parts (fan n))
           (setting ℕ w 4 (ordered_speed n) (λ t. t.parts (fan n)) refl (λ _ _. refl) (λ _ _. refl) (λ _. refl)
-          (λ t c. by_effect (ordered_speed n) refl (λ o. acted o (fan n) (t.parts (fan n))) _ refl (λ _ _ k. speed-ordered f n k _) (effect w t c))) calls s e;
+          (λ t c. by_effect (ordered_speed n) refl (λ o. acted o (fan n) (t.parts (fan n))) _ refl (λ _ _ k. speed_ordered f n k _) (effect w t c))) calls s e;
       supplies = λ n. last_set Bool w (λ _. true) (ordered_supply n) as_set (λ t. t.parts (supply n))
           (setting Bool w true (ordered_supply n) (λ t. t.parts (supply n)) refl (λ _ _. refl) (λ _ _. refl) (λ _. refl)
-          (λ t c. by_effect (ordered_supply n) refl (λ o. acted o (supply n) (t.parts (supply n))) _ refl (λ _ _ k. supply-ordered f n k _) (effect w t c))) calls s e;
+          (λ t c. by_effect (ordered_supply n) refl (λ o. acted o (supply n) (t.parts (supply n))) _ refl (λ _ _ k. supply_ordered f n k _) (effect w t c))) calls s e;
       alarm = last_set Bool w (λ _. false) (ordered_alarm f) as_set (λ t. t.rest.alarm)
           (setting Bool w false (ordered_alarm f) (λ t. t.rest.alarm) refl (λ _ _. refl) (λ _ _. refl) (λ _. refl)
-          (λ t c. by_effect (ordered_alarm f) refl (λ o. (acted_rest f o t.rest).alarm) _ refl (λ _ _ k. alarm-ordered f k _) (effect w t c))) calls s e;
+          (λ t c. by_effect (ordered_alarm f) refl (λ o. (acted_rest f o t.rest).alarm) _ refl (λ _ _ k. alarm_ordered f k _) (effect w t c))) calls s e;
       lock = last_set Bool w (λ _. false) (ordered_lock f) as_set (λ t. t.rest.lock)
           (setting Bool w false (ordered_lock f) (λ t. t.rest.lock) refl (λ _ _. refl) (λ _ _. refl) (λ _. refl)
-          (λ t c. by_effect (ordered_lock f) refl (λ o. (acted_rest f o t.rest).lock) _ refl (λ _ _ k. lock-ordered f k _) (effect w t c))) calls s e;
+          (λ t c. by_effect (ordered_lock f) refl (λ o. (acted_rest f o t.rest).lock) _ refl (λ _ _ k. lock_ordered f k _) (effect w t c))) calls s e;
       identify = λ n. last_set Bool w (λ _. false) (ordered_identify n) as_set (λ t. (t.parts (slot n)).identify)
           (setting Bool w false (ordered_identify n) (λ t. (t.parts (slot n)).identify) refl (λ _ q. first_identify (q.present n)) (λ t q. sampled_identify (t.rest.inputs.present n) (q.present n) (t.parts (slot n))) (λ _. refl)
-          (λ t c. by_effect (ordered_identify n) refl (λ o. (acted o (slot n) (t.parts (slot n))).identify) _ refl (λ _ _ k. identify-ordered f n k _) (effect w t c))) calls s e;
+          (λ t c. by_effect (ordered_identify n) refl (λ o. (acted o (slot n) (t.parts (slot n))).identify) _ refl (λ _ _ k. identify_ordered f n k _) (effect w t c))) calls s e;
     }

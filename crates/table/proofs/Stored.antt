@@ -33,8 +33,8 @@ module _ (old now : ℕ → Slot) (bs : List ℕ) (k : ℕ)
           step j l ∙ rw (ne_eqb j k n, le-ltb j (k + 1) q) (inv j l ∙ rw (le-ltb j k a))
 
   -- where fewer than three bytes are left, or all slots are done, all triples are
-  pub stored-all : ((j : ℕ) → j < 14 → 3 * j + 2 < length bs → j < k) → (j : ℕ) → j < 14 → now j ≡ cond (ltb (3 * j + 2) (length bs)) (replaced (triple_in bs j) (old j)) (old j)
-  stored-all end j l = inv j l ∙ go (cases_lt (3 * j + 2) (length bs))
+  pub stored_all : ((j : ℕ) → j < 14 → 3 * j + 2 < length bs → j < k) → (j : ℕ) → j < 14 → now j ≡ cond (ltb (3 * j + 2) (length bs)) (replaced (triple_in bs j) (old j)) (old j)
+  stored_all end j l = inv j l ∙ go (cases_lt (3 * j + 2) (length bs))
     where
       go : (3 * j + 2 < length bs) ⊎ (length bs ≤ 3 * j + 2)
           → cond (ltb j k && ltb (3 * j + 2) (length bs)) (replaced (triple_in bs j) (old j)) (old j) ≡ cond (ltb (3 * j + 2) (length bs)) (replaced (triple_in bs j) (old j)) (old j)

@@ -8,30 +8,30 @@ use Rattle.words.specs.declared.Part.TheVariants.{Code, Gap, Word}
 use Rattle.words.specs.Words.{blank, comment, within, front, pieces, words, taken, joined_after, joined_by, IsWord}
 
 module _ (test : ℕ → Bool) where
-  front-le : (cs : List ℕ) → length (front test cs) ≤ length cs
-  front-le [] = omega arith
-  front-le (c ∷ cs) = elim (test c) as (λ v. length (cond v (c ∷ front test cs) []) ≤ length (c ∷ cs)) [ true ↦ omega (arith, front-le cs) | false ↦ omega arith ]
+  front_le : (cs : List ℕ) → length (front test cs) ≤ length cs
+  front_le [] = omega arith
+  front_le (c ∷ cs) = elim (test c) as (λ v. length (cond v (c ∷ front test cs) []) ≤ length (c ∷ cs)) [ true ↦ omega (arith, front_le cs) | false ↦ omega arith ]
 
   pub front_fits : (cs : List ℕ) (n : ℕ) → n ≡ length (front test cs) → n ≤ length cs
-  front_fits cs n e = omega (arith, front-le cs)
+  front_fits cs n e = omega (arith, front_le cs)
 
-  front-take : (cs : List ℕ) → take (length (front test cs)) cs ≡ front test cs
-  front-take [] = refl
-  front-take (c ∷ cs) = elim (test c) as (λ v. take (length (cond v (c ∷ front test cs) [])) (c ∷ cs) ≡ cond v (c ∷ front test cs) []) [ true ↦ ap (λ (l : List ℕ). c ∷ l) (front-take cs) | false ↦ refl ]
+  front_take : (cs : List ℕ) → take (length (front test cs)) cs ≡ front test cs
+  front_take [] = refl
+  front_take (c ∷ cs) = elim (test c) as (λ v. take (length (cond v (c ∷ front test cs) [])) (c ∷ cs) ≡ cond v (c ∷ front test cs) []) [ true ↦ ap (λ (l : List ℕ). c ∷ l) (front_take cs) | false ↦ refl ]
 
-  pub front-is : (cs ds : List ℕ) (n : ℕ) → n ≡ length (front test cs) → ds ≡ take n cs → ds ≡ front test cs
-  front-is cs ds n e d = d ∙ ap (λ k. take k cs) e ∙ front-take cs
+  pub front_is : (cs ds : List ℕ) (n : ℕ) → n ≡ length (front test cs) → ds ≡ take n cs → ds ≡ front test cs
+  front_is cs ds n e d = d ∙ ap (λ k. take k cs) e ∙ front_take cs
 
   abbrev Passes : ℕ → Type 0
   Passes c = test c ≡ true
 
-  front-all : (cs : List ℕ) → All (λ c. test c ≡ true) cs → front test cs ≡ cs
-  front-all [] h = refl
-  front-all (c ∷ cs) h = cond-true (test c) (c ∷ front test cs) [] (All-head Passes c cs h) ∙ ap (λ (l : List ℕ). c ∷ l) (front-all cs (All-tail Passes c cs h))
+  front_all : (cs : List ℕ) → All (λ c. test c ≡ true) cs → front test cs ≡ cs
+  front_all [] h = refl
+  front_all (c ∷ cs) h = cond-true (test c) (c ∷ front test cs) [] (All-head Passes c cs h) ∙ ap (λ (l : List ℕ). c ∷ l) (front_all cs (All-tail Passes c cs h))
 
-  front-append : (cs rest : List ℕ) → All (λ c. test c ≡ true) cs → front test rest ≡ [] → front test (cs ++ rest) ≡ cs
-  front-append [] rest h e = e
-  front-append (c ∷ cs) rest h e = cond-true (test c) (c ∷ front test (cs ++ rest)) [] (All-head Passes c cs h) ∙ ap (λ (l : List ℕ). c ∷ l) (front-append cs rest (All-tail Passes c cs h) e)
+  front_append : (cs rest : List ℕ) → All (λ c. test c ≡ true) cs → front test rest ≡ [] → front test (cs ++ rest) ≡ cs
+  front_append [] rest h e = e
+  front_append (c ∷ cs) rest h e = cond-true (test c) (c ∷ front test (cs ++ rest)) [] (All-head Passes c cs h) ∙ ap (λ (l : List ℕ). c ∷ l) (front_append cs rest (All-tail Passes c cs h) e)
 
   -- The steps of a count of the front.
   pub span_more : (text : List ℕ) (i : ℕ) → i < length text → true ≡ test (get_or text i 0) → i + length (front test (drop i text)) ≡ length (front test text) → i + 1 + length (front test (drop (i + 1) text)) ≡ length (front test text)
@@ -40,8 +40,8 @@ module _ (test : ℕ → Bool) where
       let f : front test (drop i text) ≡ x ∷ front test (drop (i + 1) text) = at_drop_more (front test) text i 0 h ∙ cond-true (test x) (x ∷ front test (drop (i + 1) text)) [] (sym e) in
       omega (arith, ap length f)
 
-  pub span-stop : (text : List ℕ) (i : ℕ) → i < length text → false ≡ test (get_or text i 0) → i + length (front test (drop i text)) ≡ length (front test text) → i ≡ length (front test text)
-  span-stop text i h e inv =
+  pub span_stop : (text : List ℕ) (i : ℕ) → i < length text → false ≡ test (get_or text i 0) → i + length (front test (drop i text)) ≡ length (front test text) → i ≡ length (front test text)
+  span_stop text i h e inv =
       let x = get_or text i 0 in
       let f : front test (drop i text) ≡ [] = at_drop_more (front test) text i 0 h ∙ cond-false (test x) (x ∷ front test (drop (i + 1) text)) [] (sym e) in
       omega (arith, ap length f)
@@ -115,7 +115,7 @@ pub record Cut (text rest word past : List ℕ) : Type 0 where
 pub cut_by : (text rest word past : List ℕ) (n m : ℕ) → n ≡ gap text → rest ≡ drop n text → m ≡ run rest → word ≡ take m rest → past ≡ drop m rest → Cut text rest word past
 cut_by text rest word past n m e start k first others = record {
   start = start ∙ ap (λ i. drop i text) e;
-  first = front-is (within Word) rest word m k first;
+  first = front_is (within Word) rest word m k first;
   others = others ∙ ap (λ i. drop i rest) k;
 }
 
@@ -158,7 +158,7 @@ code_bytes w h = All-weaker (λ c. (blank c ≡ false) × (comment c ≡ false))
 
 word_first : (w rest : List ℕ) → IsWord w → front (within Word) rest ≡ [] → pieces false (w ++ rest) ≡ w ∷ pieces true rest
 word_first [] rest h e = absurd (omega (arith, h.0))
-word_first (c ∷ w) rest h e = piece_new c (w ++ rest) (All-head Bare c w h.1).0 ∙ (λ i. front-append (within Word) (c ∷ w) rest (word_bytes (c ∷ w) h.1) e i ∷ on_through w rest (All-tail Bare c w h.1) i)
+word_first (c ∷ w) rest h e = piece_new c (w ++ rest) (All-head Bare c w h.1).0 ∙ (λ i. front_append (within Word) (c ∷ w) rest (word_bytes (c ∷ w) h.1) e i ∷ on_through w rest (All-tail Bare c w h.1) i)
 
 module _ (b : ℕ) (is : blank b ≡ true) where
   ends : (ws : List (List ℕ)) → front (within Word) (joined_after b ws) ≡ []
@@ -173,13 +173,13 @@ module _ (b : ℕ) (is : blank b ≡ true) where
   found [] h = refl
   found (w ∷ ws) h = word_first w (joined_after b ws) (All-head IsWord w ws h) (ends ws) ∙ ap (λ (l : List (List ℕ)). w ∷ l) (found_after ws (All-tail IsWord w ws h))
 
-  code-after : (ws : List (List ℕ)) → All IsWord ws → All (λ c. within Code c ≡ true) (joined_after b ws)
-  code-after [] h = All-nil IsCode
-  code-after (w ∷ ws) h = All-cons IsCode b (w ++ joined_after b ws) (blank_not_comment b is) (All-append IsCode w (joined_after b ws) (code_bytes w (All-head IsWord w ws h).1) (code-after ws (All-tail IsWord w ws h)))
+  code_after : (ws : List (List ℕ)) → All IsWord ws → All (λ c. within Code c ≡ true) (joined_after b ws)
+  code_after [] h = All-nil IsCode
+  code_after (w ∷ ws) h = All-cons IsCode b (w ++ joined_after b ws) (blank_not_comment b is) (All-append IsCode w (joined_after b ws) (code_bytes w (All-head IsWord w ws h).1) (code_after ws (All-tail IsWord w ws h)))
 
-  code-all : (ws : List (List ℕ)) → All IsWord ws → All (λ c. within Code c ≡ true) (joined_by b ws)
-  code-all [] h = All-nil IsCode
-  code-all (w ∷ ws) h = All-append IsCode w (joined_after b ws) (code_bytes w (All-head IsWord w ws h).1) (code-after ws (All-tail IsWord w ws h))
+  code_all : (ws : List (List ℕ)) → All IsWord ws → All (λ c. within Code c ≡ true) (joined_by b ws)
+  code_all [] h = All-nil IsCode
+  code_all (w ∷ ws) h = All-append IsCode w (joined_after b ws) (code_bytes w (All-head IsWord w ws h).1) (code_after ws (All-tail IsWord w ws h))
 
   pub words_back : (line : List ℕ) (ws : List (List ℕ)) → All IsWord ws → line ≡ joined_by b ws → words line ≡ ws
-  words_back line ws h e = ap words e ∙ ap (pieces false) (front-all (within Code) (joined_by b ws) (code-all ws h)) ∙ found ws h
+  words_back line ws h e = ap words e ∙ ap (pieces false) (front_all (within Code) (joined_by b ws) (code_all ws h)) ∙ found ws h

@@ -5,7 +5,7 @@ use Rattle.history.specs.Orders.{triple_in}
 use Rattle.orders.specs.Decoded.{parted}
 use Rattle.orders.proofs.Sound.{none_left, split, triple_after}
 use Rattle.table.specs.Table.{slots_of}
-use Rattle.table.proofs.Stored.{stored-all, stored_more}
+use Rattle.table.proofs.Stored.{stored_all, stored_more}
 use Rattle.table.proofs.rows.Table.store.Goals as goal
 
 pub returns-in_default : goal.returns-in_default
@@ -17,7 +17,7 @@ returns-in_default c =
     let none = none_left rest (ap parted (sym c.in_default.is) ∙ c.next_triple.ensures) in
     let short : length rest < 3 = elim (cases_lt (length rest) 3) [ inl l ↦ l | inr g ↦ absurd (none g) ] in
     record {
-      slots = stored-all (slots_of c.args.self.now) (slots_of c.loop-k.self) bs k c.loop-k.invariant.0 (λ j l m. omega arith);
+      slots = stored_all (slots_of c.args.self.now) (slots_of c.loop-k.self) bs k c.loop-k.invariant.0 (λ j l m. omega arith);
       counts = c.loop-k.invariant.1;
     }
 
