@@ -1,5 +1,5 @@
 -- What a command returns, and what its buffer then holds, by its answer.
-use Rattle.std.specs.Prelude.{ℕ, Bool, true, false, List, [], ◌++◌, length, drop, None, Ok, Err, Result}
+use Rattle.std.specs.Prelude.{ℕ, Bool, true, false, List, ◌++◌, length, drop, None, Ok, Err, Result}
 use Rattle.answers.specs.declared.refusal.Refusal.{Refusal}
 use Rattle.answers.specs.declared.status.Status.TheVariants.{Good}
 use Rattle.backplane.specs.Meaning.{Value}

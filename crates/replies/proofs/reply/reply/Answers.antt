@@ -1,5 +1,4 @@
-use Rattle.std.proofs.Common.{◌≡◌, ℕ, ◌≤◌, ◌++◌, length, take, drop, sym, refl, ap, ◌∙◌, arith, rules}
-use Rattle.answers.specs.declared.sense.Sense.TheVariants.{LogicalUnit}
+use Rattle.std.proofs.Common.{ℕ, ◌++◌, length, take, drop, ap, ◌∙◌, arith}
 use Rattle.history.specs.Replies.{page_bytes, sense_bytes}
 use Rattle.shelf_pages.specs.Held.{parts_of, rest_of}
 use Rattle.table.specs.Table.{counts_of, slots_of}
