@@ -1,6 +1,5 @@
 -- A line comes out the same however it is cut into chunks.
-use Rattle.std.proofs.Common.{◌≡◌, ℕ, ◌+◌, ◌<◌, ◌≤◌, Bool, true, false, cond, eqb, ltb, List, [], ◌∷◌, ◌++◌, length, sym, refl, ap, ◌∙◌, append_assoc, arith, length-append, ltb-true, le-ltb, lt-ltb}
-use borrow.Author.Tests.{lt-true, le-false}
+use Rattle.std.proofs.Common.{◌≡◌, ℕ, ◌+◌, Bool, true, false, cond, ltb, List, [], ◌++◌, length, sym, refl, ap, ◌∙◌, append_assoc, arith, length-append, ltb-true, le-ltb, lt-ltb}
 use Rattle.words.specs.Words.{first_line}
 use Rattle.gathered.specs.Gathered.{Held, add, longest, newline_in, used_of}
 

@@ -1,5 +1,5 @@
 -- Lines gathered from chunks of input.
-use Rattle.std.specs.Prelude.{ℕ, ◌+◌, Bool, true, false, cond, not, ◌&&◌, List, [], ◌∷◌, ◌++◌, length, Some, None, vec_items, Option, ◌==◌, nat_lt}
+use Rattle.std.specs.Prelude.{ℕ, ◌+◌, Bool, true, false, cond, not, ◌&&◌, List, [], ◌++◌, length, Some, None, vec_items, Option, ◌==◌, nat_lt}
 use Rattle.words.specs.Words.{first_line}
 use Rattle.gathered.specs.declared.LineBuffer.{LineBuffer}
 
