@@ -1,18 +1,15 @@
 -- A command does to a shelf what it does to the history.
-use Rattle.std.proofs.Common.{◌≡◌, ℕ, ◌<◌, ◌≤◌, Bool, true, false, cond, ◌&&◌, eqb, ltb, ◌⊎◌, List, length, take, Some, None, Option, sym, refl, ap, ◌∙◌, subst, ap₂, inl, inr, arith}
+use Rattle.std.proofs.Common.{◌≡◌, ℕ, ◌<◌, ◌≤◌, Bool, true, false, cond, ◌&&◌, eqb, ltb, List, length, take, sym, refl, ap, ◌∙◌, inl, inr, arith}
 use Rattle.std.proofs.lemmas.Bool.{both_ways, cases_lt, cond_both, lt-ltb, ltb-false}
-use Rattle.answers.specs.declared.refusal.Refusal.{Refusal}
-use Rattle.answers.specs.declared.refusal.Refusal.TheVariants as refusal
 use Rattle.answers.specs.declared.status.Status.TheVariants.{Good}
-use Rattle.backplane.specs.Meaning.{Inputs, Value}
+use Rattle.backplane.specs.Meaning.{Value}
 use Rattle.backplane.specs.declared.configuration.Configuration.{Configuration}
-use Rattle.driving.specs.Obeyed.{flags_after, slots_after, value_after}
-use Rattle.history.specs.Cdb.{ill_formed, long_length, opcode, unit}
-use Rattle.history.specs.Judgement.{Verdict, refuse, miss, miss_inquiry, miss_sense, attend, pass, reject, inquire, show_sense, show_page, obey, judge, missed, on_host, order_in, unit_verdict}
+use Rattle.history.specs.Cdb.{ill_formed, long_length, opcode}
+use Rattle.history.specs.Judgement.{Verdict, refuse, miss, miss_inquiry, miss_sense, attend, pass, reject, inquire, show_sense, show_page, obey, judge, on_host, order_in}
 use Rattle.history.specs.Orders.{acted, acted_rest}
 use Rattle.history.specs.Replies.{reply, sense_bytes, shown_sense}
-use Rattle.history.specs.Shelf.{Answer, ended, Command, Host, Part, slot, Rest, Shelf, Slot, World}
-use Rattle.history.specs.Steps.{commanded, replied, verdict}
+use Rattle.history.specs.Shelf.{ended, Command, Host, Shelf, Slot, World}
+use Rattle.history.specs.Steps.{commanded, verdict}
 use Rattle.history.proofs.Judged.{Judged, attends, inquires, judged, misses, misses_inquiry, misses_sense, obeys, passes, refuses, rejects, shows_page, shows_sense, writes_nothing}
 use Rattle.replies.specs.Answered.{answer_to, is_refusal}
 use Rattle.processor.specs.Settled.{flags_by, slots_by, value_by}

@@ -1,12 +1,12 @@
 -- A command of a shelf follows the history.
-use Rattle.std.proofs.Common.{◌≡◌, ℕ, ◌<◌, ◌≤◌, Bool, true, false, cond, eqb, List, length, get_or, Ok, Err, Result, sym, refl, ap, ◌∙◌, subst}
+use Rattle.std.proofs.Common.{◌≡◌, ℕ, ◌<◌, ◌≤◌, true, false, cond, eqb, List, get_or, Ok, Err, sym, ap, ◌∙◌, subst}
 use Rattle.std.proofs.lemmas.Bool.{both_ways}
 use Rattle.answers.specs.declared.refusal.Refusal.{Refusal}
 use Rattle.backplane.specs.Meaning.{Value}
 use Rattle.history.specs.Judgement.{Verdict, refuse, judge, on_host, order_in}
 use Rattle.history.specs.Replies.{reply}
 use Rattle.history.specs.Shelf as history
-use Rattle.history.specs.Steps.{commanded, replied, step, verdict}
+use Rattle.history.specs.Steps.{commanded, replied, step}
 use Rattle.history.proofs.Altered.{refused_alters_nothing}
 use Rattle.hosts.specs.Held.{hosts_of}
 use Rattle.replies.specs.Answered.{answer_to, is_refusal, laid, result_of}

@@ -1,5 +1,5 @@
 -- What no call alters: the configuration, and what stands beside the outputs.
-use Rattle.std.proofs.Common.{◌≡◌, ℕ, ◌&&◌, ltb, Some, None, Option, sym, refl, ap, ◌∙◌}
+use Rattle.std.proofs.Common.{◌≡◌, ℕ, ◌&&◌, ltb, Some, None, Option, refl, ap, ◌∙◌}
 use Rattle.std.proofs.lemmas.Bool.{cond_both}
 use Rattle.backplane.specs.Meaning.{Inputs, Value, has, numbers, one, put, sampled}
 use Rattle.enclosure.specs.Flags.{bit}

@@ -1,22 +1,18 @@
 -- A shelf that obeys an order is tied to the history that does.
-use Rattle.std.proofs.Common.{◌≡◌, ℕ, ◌+◌, ◌*◌, ◌%◌, ◌<◌, ◌≤◌, Bool, true, false, cond, ◌&&◌, eqb, ltb, List, [], ◌∷◌, length, get_or, take, drop, Some, sym, refl, ap, ◌∙◌, subst, ap₂, arith, length-drop, length-take}
-use Rattle.std.proofs.lemmas.Bool.{both_ways, cond_both, cond-false, cond-true, eq-eqb, eqb-true, lt-ltb, ltb-true}
-use Rattle.backplane.specs.Meaning.{Bounded, Value, altered, has, one, put, same_output}
+use Rattle.std.proofs.Common.{◌≡◌, ℕ, ◌+◌, ◌*◌, ◌%◌, ◌<◌, ◌≤◌, Bool, true, false, cond, ◌&&◌, eqb, ltb, List, [], ◌∷◌, length, get_or, take, drop, Some, sym, refl, ap, ◌∙◌, subst, arith, length-drop, length-take}
+use Rattle.std.proofs.lemmas.Bool.{cond_both, cond-false, cond-true, eqb-true, lt-ltb, ltb-true}
+use Rattle.backplane.specs.Meaning.{Value, altered, has, one, put, same_output}
 use Rattle.backplane.specs.declared.configuration.Configuration.{Configuration}
 use Rattle.backplane.specs.declared.places.Output.{Output}
 use Rattle.backplane.specs.declared.places.Output.TheVariants.{Lamp, Connection, Speed, Supply, Alarm, Lock}
 use Rattle.enclosure.specs.Flags.{bit}
-use Rattle.enclosure.specs.Slots.{inserted}
 use Rattle.driving.specs.Obeyed.{flags_after, slots_after, value_after}
-use Rattle.history.specs.Kept.{Fine}
 use Rattle.history.specs.Orders.{Operation, Order, triples, operate, speed, switch, global, act, act_rest, both_rebuild, flagged, operated, sound_below, stored, triple_in, with_row}
 use Rattle.history.specs.Outputs.{connected, output, slot_lamp}
-use Rattle.history.specs.Shelf.{Host, Part, slot, fan, supply, Rest, Shelf, Slot}
+use Rattle.history.specs.Shelf.{Host, slot, supply, Shelf, Slot}
 use Rattle.history.proofs.Judged.{Ordered, fifteen, fourteen, ten, thirteen, twelve}
 use Rattle.history.proofs.Present.{acted_in}
 use Rattle.history.proofs.Rows.{act_fine, sound_at, triple_within}
-use Rattle.showing.specs.Shown.{of_slot, slot_number, slots_below}
-use Rattle.startup.specs.Started.{made_where}
 use Rattle.table.specs.Rows.{replaced}
 use Rattle.processor.specs.Tied.{Tied}
 

@@ -1,12 +1,12 @@
 -- The pages of a shelf are those of its history.
-use Rattle.std.proofs.Common.{◌≡◌, ℕ, zero, suc, ◌+◌, ◌<◌, Bool, true, false, cond, eqb, ltb, List, [], ◌∷◌, ◌++◌, sym, refl, ap, ◌∙◌, ap₂, arith}
+use Rattle.std.proofs.Common.{◌≡◌, ℕ, zero, suc, ◌+◌, ◌<◌, Bool, true, false, cond, eqb, List, [], ◌∷◌, ◌++◌, refl, ap, ◌∙◌, ap₂, arith}
 use Rattle.std.proofs.lemmas.Bool.{lt-ltb}
 use Rattle.backplane.specs.Meaning.{Inputs, Value, one}
 use Rattle.backplane.specs.declared.places.Output.TheVariants.{Supply, Alarm, Lock}
 use Rattle.enclosure.specs.Conditions.{fan_of, supply_of}
-use Rattle.history.specs.Replies.{if_fitted, listed, page_bytes, slot_page, slots_of, status_of}
-use Rattle.history.specs.Shelf.{Host, Part, slot, fan, supply, Rest, Shelf, Slot}
-use Rattle.pages.specs.Pages.{Status, insertions_page, status_page, global_flags_page}
+use Rattle.history.specs.Replies.{if_fitted, listed, page_bytes, slot_page, status_of}
+use Rattle.history.specs.Shelf.{Host, supply, Shelf, Slot}
+use Rattle.pages.specs.Pages.{insertions_page, status_page, global_flags_page}
 use Rattle.parts.specs.declared.kinds.InsertionCount.{InsertionCount}
 use Rattle.shelf_pages.specs.Held.{parts_of, rest_of}
 use Rattle.shelf_pages.proofs.Statuses.{same_status}

@@ -1,16 +1,14 @@
 -- A sample does to a shelf what it does to the history.
-use Rattle.std.proofs.Common.{◌≡◌, ℕ, ◌<◌, ◌≤◌, Bool, true, false, cond, not, ◌&&◌, ltb, List, Some, None, Ok, Option, sym, refl, ap, ◌∙◌, subst, ap₂, arith}
+use Rattle.std.proofs.Common.{◌≡◌, ℕ, ◌<◌, ◌≤◌, Bool, true, cond, ltb, List, Some, None, Ok, Option, sym, refl, ap, ◌∙◌, subst, ap₂, arith}
 use Rattle.std.proofs.lemmas.Bool.{both_ways, cond-true, lt-ltb, ltb-true}
 use Rattle.backplane.specs.Meaning.{Inputs, Value, has, one, reads_well}
 use Rattle.backplane.specs.Meaning as meaning
-use Rattle.backplane.specs.declared.configuration.Configuration.{Configuration}
 use Rattle.backplane.specs.declared.places.Output.{Output}
 use Rattle.backplane.specs.declared.places.Output.TheVariants.{Lamp, Connection, Speed, Supply, Alarm, Lock}
 use Rattle.enclosure.specs.Slots.{inserted}
-use Rattle.history.specs.Kept.{Fine}
 use Rattle.history.specs.Outputs.{connected, output, slot_lamp}
 use Rattle.history.specs.Shelf as history
-use Rattle.history.specs.Steps.{sampled, sampled_by, sampled_slot, step}
+use Rattle.history.specs.Steps.{sampled, sampled_by, sampled_slot}
 use Rattle.history.proofs.Present.{sampled_in}
 use Rattle.history.proofs.Rows.{sampled_fine}
 use Rattle.hosts.specs.Held.{hosts_of}

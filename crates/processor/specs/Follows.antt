@@ -1,5 +1,5 @@
 -- What a call of a shelf promises: it does as the history of the shelf does.
-use Rattle.std.specs.Prelude.{◌≡◌, ℕ, Bool, true, false, List, Ok, Err, Option, Result}
+use Rattle.std.specs.Prelude.{◌≡◌, ℕ, true, false, List, Ok, Err, Option, Result}
 use Rattle.answers.specs.declared.refusal.Refusal.{Refusal}
 use Rattle.backplane.specs.Meaning.{Inputs, Value}
 use Rattle.backplane.specs.declared.configuration.Configuration.{Configuration}

@@ -1,5 +1,5 @@
 -- How a shelf is tied to its history.
-use Rattle.std.specs.Prelude.{◌≡◌, ℕ, ◌<◌, Bool, true, false, List}
+use Rattle.std.specs.Prelude.{◌≡◌, ℕ, ◌<◌, true, List}
 use Rattle.backplane.specs.Meaning.{Value, has}
 use Rattle.backplane.specs.declared.places.Output.{Output}
 use Rattle.enclosure.specs.Slots.{inserted}

@@ -1,4 +1,4 @@
-use Rattle.std.proofs.Common.{refl, rules}
+use Rattle.std.proofs.Common.{refl}
 use Rattle.processor.proofs.shelf.Shelf.reset.Goals as goal
 
 pub returns : goal.returns

@@ -1,11 +1,9 @@
-use Rattle.std.proofs.Common.{◌≡◌, ℕ, ◌≤◌, Bool, true, false, length, sym, refl, ap, ◌∙◌, rules}
-use Rattle.backplane.specs.Meaning.{Value}
+use Rattle.std.proofs.Common.{◌≡◌, true, length, sym, refl, ap, ◌∙◌, rules}
 use Rattle.backplane.specs.declared.configuration.Configuration.{Configuration}
-use Rattle.history.specs.Judgement.{Verdict, judge, order_in, refuse}
+use Rattle.history.specs.Judgement.{judge, order_in}
 use Rattle.table.specs.Table.{slots_of}
-use Rattle.history.specs.Shelf.{Command, Host, World}
+use Rattle.history.specs.Shelf.{Command, Host}
 use Rattle.hosts.specs.Held.{hosts_of}
-use Rattle.replies.specs.Answered.{is_refusal}
 use Rattle.verdicts.specs.Judged.{verdict_as}
 use Rattle.processor.specs.Follows.{world_of}
 use Rattle.processor.proofs.Keeping.{become, order_keeps}

@@ -1,4 +1,4 @@
-use Rattle.std.proofs.Common.{◌≡◌, ℕ, Bool, true, is_ok, sym, refl, ap, ◌∙◌, rules}
+use Rattle.std.proofs.Common.{◌≡◌, true, is_ok, sym, refl, ap, ◌∙◌, rules}
 use Rattle.backplane.specs.Meaning.{Value, reads_well}
 use Rattle.processor.proofs.Keeping.{become, sampled_keeps}
 use Rattle.processor.specs.Follows.{world_of}
