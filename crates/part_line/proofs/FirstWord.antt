@@ -1,5 +1,5 @@
 -- A first word that reads as a value.
-use Rattle.std.proofs.Common.{◌≡◌, ℕ, ◌+◌, List, [], ◌∷◌, Some, None, Ok, Err, Option, sym, ap, ◌∙◌, arith}
+use Rattle.std.proofs.Common.{◌≡◌, ℕ, List, [], ◌∷◌, Some, Ok, Option, ap, ◌∙◌, arith}
 use Rattle.words.specs.Words.{taken}
 use Rattle.line_fields.specs.Fields.{Parsed, from_word, word_as}
 use Rattle.expected.specs.declared.Expected.{Expected}

@@ -1,6 +1,5 @@
-use Rattle.reader.specs.declared.fault.Run.{Run}
 use Rattle.part_line.proofs.FirstWord.{first_reads}
 use Rattle.part_line.proofs.run.Goals as goal
 
-pub returns-in-Some-run-named : goal.returns-in-Some-run-named
-returns-in-Some-run-named c = first_reads _ _ _ _ _ _ c.in-Some.ensures c.in-Some-run-named.ensures
+pub returns-in-Some-run_named : goal.returns-in-Some-run_named
+returns-in-Some-run_named c = first_reads _ _ _ _ _ _ c.in-Some.ensures c.in-Some-run_named.ensures
