@@ -14,8 +14,8 @@ use Rattle.history.proofs.Judged.{Judged, attends, inquires, judged, misses, mis
 use Rattle.replies.specs.Answered.{answer_to, is_refusal}
 use Rattle.processor.specs.Settled.{flags_by, slots_by, value_by}
 use Rattle.processor.specs.Tied.{Tied}
-use Rattle.processor.proofs.Obeyed.{obeyed-tied}
-use Rattle.processor.proofs.SamePages.{page-same}
+use Rattle.processor.proofs.Obeyed.{obeyed_tied}
+use Rattle.processor.proofs.SamePages.{page_same}
 
 -- a command that is not refused has a host from 0 to 15 and room for its reply
 pub record Admitted (c : Command) : Type 0 where
@@ -39,8 +39,8 @@ admitted f a c =
 module _ (w : World) (v : Value) (conf : w.configuration ≡ v.configuration) (slots : ℕ → Slot) (counts : ℕ → ℕ) (hosts : ℕ → Host) (flags : List ℕ) (s : Shelf)
     (few : v.configuration.counts.slots ≤ 14) (t : Tied v slots counts hosts flags s) (c : Command) where
   -- the same verdict
-  pub same-verdict : verdict w s c ≡ judge v.configuration (hosts c.host).attention c
-  same-verdict = ap (λ (f : Configuration). judge f (s.hosts c.host).attention c) conf ∙ elim (cases_lt c.host 16) [
+  pub same_verdict : verdict w s c ≡ judge v.configuration (hosts c.host).attention c
+  same_verdict = ap (λ (f : Configuration). judge f (s.hosts c.host).attention c) conf ∙ elim (cases_lt c.host 16) [
     | inl l ↦ ap (λ (h : Host). judge v.configuration h.attention c) (sym (t.same_hosts c.host l))
     | inr g ↦ (let b = lt-ltb 15 c.host (omega arith) in rw b)
   ]
@@ -57,27 +57,27 @@ module _ (w : World) (v : Value) (conf : w.configuration ≡ v.configuration) (s
   same_answer l (inquire n) = refl
   same_answer l (show_sense n) = ap (λ (h : Host). ended Good (take n (sense_bytes (shown_sense h.sense h.attention)))) (t.same_hosts c.host l)
   same_answer l (show_page b n) =
-      ap (λ (bs : List ℕ). ended Good (take n bs)) (page-same v slots counts hosts flags s t b)
+      ap (λ (bs : List ℕ). ended Good (take n bs)) (page_same v slots counts hosts flags s t b)
       ∙ ap (λ (f : Configuration). reply (record { configuration = f; reading = w.reading; identity = w.identity }) (show_page b n) (s.hosts c.host) s.parts s.rest) (sym conf)
   same_answer l (obey o) = refl
 
   -- the history's shelf by a verdict
-  abbrev by-verdict : Verdict → Shelf
-  by-verdict x =
+  abbrev by_verdict : Verdict → Shelf
+  by_verdict x =
       record {
         parts = λ p. acted (order_in x) p (s.parts p);
         hosts = λ h. cond (eqb h c.host) (on_host x (s.hosts h)) (s.hosts h);
         rest = acted_rest v.configuration (order_in x) s.rest;
       }
 
-  pub by-same : (x : Verdict) → verdict w s c ≡ x → commanded w s c ≡ by-verdict x
-  by-same x e =
+  pub by_same : (x : Verdict) → verdict w s c ≡ x → commanded w s c ≡ by_verdict x
+  by_same x e =
       ap (λ (f : Configuration). record {
         parts = λ p. acted (order_in (verdict w s c)) p (s.parts p);
         hosts = λ h. cond (eqb h c.host) (on_host (verdict w s c) (s.hosts h)) (s.hosts h);
         rest = acted_rest f (order_in (verdict w s c)) s.rest;
       }) conf
-      ∙ ap by-verdict e
+      ∙ ap by_verdict e
 
   module _ (slots' : ℕ → Slot) (hosts' : ℕ → Host) where
     abbrev ordered : Verdict → Shelf
@@ -99,25 +99,25 @@ module _ (w : World) (v : Value) (conf : w.configuration ≡ v.configuration) (s
           fine = t.fine;
         }
 
-    done-by : {a : Bool} {x : Verdict} → Judged v.configuration a c x → Done x
-    done-by refuses e = still e
-    done-by misses e = still e
-    done-by (misses_inquiry _) e = still e
-    done-by (misses_sense _) e = still e
-    done-by (attends _) e = still e
-    done-by (passes _) e = still e
-    done-by (writes_nothing _) e = still e
-    done-by rejects e = still e
-    done-by (inquires _) e = still e
-    done-by (shows_sense _) e = still e
-    done-by (shows_page _) e = still e
-    done-by (obeys {o = o} k q) e = obeyed-tied v slots counts hosts flags s few t slots' _ o q e
+    done_by : {a : Bool} {x : Verdict} → Judged v.configuration a c x → Done x
+    done_by refuses e = still e
+    done_by misses e = still e
+    done_by (misses_inquiry _) e = still e
+    done_by (misses_sense _) e = still e
+    done_by (attends _) e = still e
+    done_by (passes _) e = still e
+    done_by (writes_nothing _) e = still e
+    done_by rejects e = still e
+    done_by (inquires _) e = still e
+    done_by (shows_sense _) e = still e
+    done_by (shows_page _) e = still e
+    done_by (obeys {o = o} k q) e = obeyed_tied v slots counts hosts flags s few t slots' _ o q e
 
-    pub settled-tied : (a : Bool) → ((j : ℕ) → j < 14 → slots' j ≡ slots_by (order_in (judge v.configuration a c)) slots j)
+    pub settled_tied : (a : Bool) → ((j : ℕ) → j < 14 → slots' j ≡ slots_by (order_in (judge v.configuration a c)) slots j)
         → ((h : ℕ) → h < 16 → hosts' h ≡ cond (eqb h c.host) (on_host (judge v.configuration a c) (hosts h)) (hosts h))
-        → Tied (value_by (order_in (judge v.configuration a c)) slots' v) slots' counts hosts' (flags_by (order_in (judge v.configuration a c)) flags) (by-verdict (judge v.configuration a c))
-    settled-tied a e h =
-        let d = done-by (judged v.configuration a c) e in
+        → Tied (value_by (order_in (judge v.configuration a c)) slots' v) slots' counts hosts' (flags_by (order_in (judge v.configuration a c)) flags) (by_verdict (judge v.configuration a c))
+    settled_tied a e h =
+        let d = done_by (judged v.configuration a c) e in
         record {
           same_slots = d.same_slots;
           same_counts = d.same_counts;

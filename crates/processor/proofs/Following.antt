@@ -18,7 +18,7 @@ use Rattle.processor.specs.Follows.{Commanded, TiedTo}
 use Rattle.processor.specs.Settled.{flags_by, slots_by, value_by}
 use Rattle.processor.specs.Tied.{Tied}
 use Rattle.processor.specs.declared.state.State.{State}
-use Rattle.processor.proofs.Commanding.{admitted, by-same, same_answer, same-verdict, settled-tied}
+use Rattle.processor.proofs.Commanding.{admitted, by_same, same_answer, same_verdict, settled_tied}
 
 recast : (v v' : Value) (slots : ℕ → history.Slot) (counts counts' : ℕ → ℕ) (hosts : ℕ → history.Host) (flags flags' : List ℕ) (s s' : history.Shelf)
     → v' ≡ v → counts' ≡ counts → flags' ≡ flags → s' ≡ s → Tied v slots counts hosts flags s → Tied v' slots counts' hosts flags' s'
@@ -41,13 +41,13 @@ module _ (w : history.World) (v : Value) (conf : w.configuration ≡ v.configura
   abbrev told : Verdict
   told = judge v.configuration (hosts c.host).attention c
 
-  not-off : {X : Type 0} → k.powered ≡ false → X
-  not-off e = absurd (both_ways k.powered e on)
+  not_off : {X : Type 0} → k.powered ≡ false → X
+  not_off e = absurd (both_ways k.powered e on)
 
-  pub refused-follows : (r : Refusal) → told ≡ refuse r → (s : history.State) → TiedTo v k s → (old : List ℕ) → Commanded w s c old old (Err r) v k
-  refused-follows r e history.unpowered t old = not-off t
-  refused-follows r e (history.powered s) t old =
-      let q = same-verdict w v conf slots counts hosts k.memory.flags s few t.1 c ∙ e in
+  pub refused_follows : (r : Refusal) → told ≡ refuse r → (s : history.State) → TiedTo v k s → (old : List ℕ) → Commanded w s c old old (Err r) v k
+  refused_follows r e history.unpowered t old = not_off t
+  refused_follows r e (history.powered s) t old =
+      let q = same_verdict w v conf slots counts hosts k.memory.flags s few t.1 c ∙ e in
       let a : (step w (history.powered s) (history.command c)).answer ≡ history.refused r = ap (λ (x : Verdict). reply w x (s.hosts c.host) s.parts s.rest) q in
       record {
         says = sym (ap result_of a);
@@ -55,38 +55,38 @@ module _ (w : history.World) (v : Value) (conf : w.configuration ≡ v.configura
         ties = subst (TiedTo v k) (sym (refused_alters_nothing w (history.powered s) (history.command c) r a)) t;
       }
 
-  fine-all : (s : history.Shelf) → Tied v slots counts hosts k.memory.flags s → FineBelow v.configuration.counts.slots slots
-  fine-all s t j l = subst (λ (x : history.Slot). Fine x.row) (sym (t.same_slots j l)) (t.fine j l)
+  fine_all : (s : history.Shelf) → Tied v slots counts hosts k.memory.flags s → FineBelow v.configuration.counts.slots slots
+  fine_all s t j l = subst (λ (x : history.Slot). Fine x.row) (sym (t.same_slots j l)) (t.fine j l)
 
   -- what a command that comes to a verdict did
   pub record Facts (v' : Value) (k' : State) (old new : List ℕ) (r : Ended) (x : Verdict) : Type 0 where
     pub go : is_refusal x ≡ false
     pub says : 64 ≤ c.room → FineBelow v.configuration.counts.slots slots → Ok r ≡ result_of (answer_to v slots counts k.memory.flags w.identity x (hosts c.host))
     pub lays : 64 ≤ c.room → FineBelow v.configuration.counts.slots slots → new ≡ laid (answer_to v slots counts k.memory.flags w.identity x (hosts c.host)) old
-    pub hosts-now : (h : ℕ) → h < 16 → hosts_of k'.hosts h ≡ cond (eqb h c.host) (on_host x (hosts h)) (hosts h)
-    pub slots-now : (j : ℕ) → j < 14 → slots_of k'.memory.table j ≡ slots_by (order_in x) slots j
-    pub counts-now : k'.memory.table.counts ≡ k.memory.table.counts
-    pub flags-now : k'.memory.flags ≡ flags_by (order_in x) k.memory.flags
+    pub hosts_now : (h : ℕ) → h < 16 → hosts_of k'.hosts h ≡ cond (eqb h c.host) (on_host x (hosts h)) (hosts h)
+    pub slots_now : (j : ℕ) → j < 14 → slots_of k'.memory.table j ≡ slots_by (order_in x) slots j
+    pub counts_now : k'.memory.table.counts ≡ k.memory.table.counts
+    pub flags_now : k'.memory.flags ≡ flags_by (order_in x) k.memory.flags
     pub does : v' ≡ value_by (order_in x) (slots_of k'.memory.table) v
     pub still : k'.powered ≡ k.powered
 
-  pub done-follows : (v' : Value) (k' : State) (old new : List ℕ) (r : Ended) (x : Verdict) → x ≡ told → Facts v' k' old new r x → (s : history.State) → TiedTo v k s → Commanded w s c old new (Ok r) v' k'
-  done-follows v' k' old new r x is facts history.unpowered t = not-off t
-  done-follows v' k' old new r x is facts (history.powered s) t =
+  pub done_follows : (v' : Value) (k' : State) (old new : List ℕ) (r : Ended) (x : Verdict) → x ≡ told → Facts v' k' old new r x → (s : history.State) → TiedTo v k s → Commanded w s c old new (Ok r) v' k'
+  done_follows v' k' old new r x is facts history.unpowered t = not_off t
+  done_follows v' k' old new r x is facts (history.powered s) t =
       let f : Facts v' k' old new r told = subst (Facts v' k' old new r) is facts in
       let adm = admitted v.configuration (hosts c.host).attention c f.go in
-      let fine = fine-all s t.1 in
-      let q = same-verdict w v conf slots counts hosts k.memory.flags s few t.1 c in
+      let fine = fine_all s t.1 in
+      let q = same_verdict w v conf slots counts hosts k.memory.flags s few t.1 c in
       let a : answer_to v slots counts k.memory.flags w.identity told (hosts c.host) ≡ replied w s c
       = same_answer w v conf slots counts hosts k.memory.flags s few t.1 c adm.host told ∙ sym (ap (λ (y : Verdict). reply w y (s.hosts c.host) s.parts s.rest) q) in
-      let n : counts_of k'.memory.table ≡ counts = ap {B = ℕ → ℕ} (λ (xs : List ℕ) (j : ℕ). get_or xs j 0) f.counts-now in
+      let n : counts_of k'.memory.table ≡ counts = ap {B = ℕ → ℕ} (λ (xs : List ℕ) (j : ℕ). get_or xs j 0) f.counts_now in
       record {
         says = f.says adm.room fine ∙ ap result_of a;
         lays = f.lays adm.room fine ∙ ap (λ (y : history.Answer). laid y old) a;
         ties = (
           f.still ∙ on,
           recast _ v' (slots_of k'.memory.table) counts (counts_of k'.memory.table) (hosts_of k'.hosts) _ k'.memory.flags _ (commanded w s c)
-              f.does n f.flags-now (by-same w v conf slots counts hosts k.memory.flags s few t.1 c told q)
-              (settled-tied w v conf slots counts hosts k.memory.flags s few t.1 c (slots_of k'.memory.table) (hosts_of k'.hosts) (hosts c.host).attention f.slots-now f.hosts-now),
+              f.does n f.flags_now (by_same w v conf slots counts hosts k.memory.flags s few t.1 c told q)
+              (settled_tied w v conf slots counts hosts k.memory.flags s few t.1 c (slots_of k'.memory.table) (hosts_of k'.hosts) (hosts c.host).attention f.slots_now f.hosts_now),
         );
       }

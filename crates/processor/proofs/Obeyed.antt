@@ -83,19 +83,19 @@ module _ (v : Value) (slots : ℕ → Slot) (counts : ℕ → ℕ) (hosts : ℕ 
     long : length told ≡ 3 * v.configuration.counts.slots
     long = let a = length-take (3 * v.configuration.counts.slots) (drop 1 bs) in let b = length-drop 1 bs in omega arith
 
-    stored-now : ((j : ℕ) → j < 14 → slots' j ≡ slots_after (triples told) slots j) → (j : ℕ) → j < v.configuration.counts.slots → slots' j ≡ act (triples told) (slot j) (slots j)
-    stored-now e j m =
+    stored_now : ((j : ℕ) → j < 14 → slots' j ≡ slots_after (triples told) slots j) → (j : ℕ) → j < v.configuration.counts.slots → slots' j ≡ act (triples told) (slot j) (slots j)
+    stored_now e j m =
         let n = long in
         let p : 3 * j + 2 < length told = omega arith in
         let q : both_rebuild (triple_in told j) ≡ false = ap both_rebuild (triple_within v.configuration.counts.slots (drop 1 bs) j m) ∙ sound_at (drop 1 bs) v.configuration.counts.slots j z m in
         e j (omega arith) ∙ cond-true (ltb (3 * j + 2) (length told)) _ _ (lt-ltb (3 * j + 2) (length told) p) ∙ sound_replaced (triple_in told j) (slots j) q
 
-    ten-tied : ((j : ℕ) → j < 14 → slots' j ≡ slots_after (triples told) slots j)
+    ten_tied : ((j : ℕ) → j < 14 → slots' j ≡ slots_after (triples told) slots j)
         → Tied (value_after (triples told) slots' v) slots' counts hosts flags (ordered_shelf v.configuration (triples told) s)
-    ten-tied e = tied v slots counts hosts flags s few t slots' bs (triples told) (ten k l z) (value_after (triples told) slots' v) refl refl (stored-now e) refl refl refl outs
+    ten_tied e = tied v slots counts hosts flags s few t slots' bs (triples told) (ten k l z) (value_after (triples told) slots' v) refl refl (stored_now e) refl refl refl outs
       where
         there : (j : ℕ) → ltb j v.configuration.counts.slots ≡ true → slots' j ≡ act (triples told) (slot j) (s.parts (slot j))
-        there j h = let m = ltb-true j _ h in stored-now e j m ∙ ap (act (triples told) (slot j)) (t.same_slots j m)
+        there j h = let m = ltb-true j _ h in stored_now e j m ∙ ap (act (triples told) (slot j)) (t.same_slots j m)
 
         outs : (q : Output) → has v.configuration q ≡ true → (value_after (triples told) slots' v).outputs q ≡ output (ordered_shelf v.configuration (triples told) s) q
         outs (Lamp j) h = cond-true (ltb j v.configuration.counts.slots) _ _ h ∙ ap slot_lamp (there j h)
@@ -106,9 +106,9 @@ module _ (v : Value) (slots : ℕ → Slot) (counts : ℕ → ℕ) (hosts : ℕ 
         outs Lock h = t.same_outputs Lock h
 
   module _ (bs : List ℕ) (n : ℕ) (o : Operation) (k : Ordered v.configuration bs (operate n o)) where
-    twelve-tied : ((j : ℕ) → j < 14 → slots' j ≡ slots_after (operate n o) slots j)
+    twelve_tied : ((j : ℕ) → j < 14 → slots' j ≡ slots_after (operate n o) slots j)
         → Tied (value_after (operate n o) slots' v) slots' counts hosts flags (ordered_shelf v.configuration (operate n o) s)
-    twelve-tied e = tied v slots counts hosts flags s few t slots' bs (operate n o) k (value_after (operate n o) slots' v) refl refl (λ j m. e j (omega arith)) refl refl refl outs
+    twelve_tied e = tied v slots counts hosts flags s few t slots' bs (operate n o) k (value_after (operate n o) slots' v) refl refl (λ j m. e j (omega arith)) refl refl refl outs
       where
         there : (j : ℕ) → ltb j v.configuration.counts.slots ≡ true → slots' j ≡ act (operate n o) (slot j) (s.parts (slot j))
         there j h = let m = ltb-true j _ h in e j (omega arith) ∙ ap (act (operate n o) (slot j)) (t.same_slots j m)
@@ -131,8 +131,8 @@ module _ (v : Value) (slots : ℕ → Slot) (counts : ℕ → ℕ) (hosts : ℕ 
         outs Lock h = t.same_outputs Lock h
 
   module _ (bs : List ℕ) (n x : ℕ) (k : Ordered v.configuration bs (speed n x)) (l : n < v.configuration.counts.fans) (m : x < 5) where
-    thirteen-tied : ((j : ℕ) → j < 14 → slots' j ≡ slots j) → Tied (value_after (speed n x) slots' v) slots' counts hosts flags (ordered_shelf v.configuration (speed n x) s)
-    thirteen-tied e =
+    thirteen_tied : ((j : ℕ) → j < 14 → slots' j ≡ slots j) → Tied (value_after (speed n x) slots' v) slots' counts hosts flags (ordered_shelf v.configuration (speed n x) s)
+    thirteen_tied e =
         let is : put v (Speed n) x ≡ altered v (Speed n) x = rw (lt-ltb n _ l, lt-ltb x 5 m) in
         subst (λ (u : Value). Tied u slots' counts hosts flags (ordered_shelf v.configuration (speed n x) s)) (sym is)
         (tied v slots counts hosts flags s few t slots' bs (speed n x) k (altered v (Speed n) x) refl refl (λ j b. e j (omega arith)) refl refl refl outs)
@@ -146,8 +146,8 @@ module _ (v : Value) (slots : ℕ → Slot) (counts : ℕ → ℕ) (hosts : ℕ 
         outs Lock h = t.same_outputs Lock h
 
   module _ (bs : List ℕ) (n : ℕ) (on : Bool) (k : Ordered v.configuration bs (switch n on)) (l : n < v.configuration.counts.supplies) where
-    fourteen-tied : ((j : ℕ) → j < 14 → slots' j ≡ slots j) → Tied (value_after (switch n on) slots' v) slots' counts hosts flags (ordered_shelf v.configuration (switch n on) s)
-    fourteen-tied e =
+    fourteen_tied : ((j : ℕ) → j < 14 → slots' j ≡ slots j) → Tied (value_after (switch n on) slots' v) slots' counts hosts flags (ordered_shelf v.configuration (switch n on) s)
+    fourteen_tied e =
         let is : put v (Supply n) (one on) ≡ altered v (Supply n) (one on) = rw (lt-ltb n _ l, one_fits on) in
         subst (λ (u : Value). Tied u slots' counts hosts flags (ordered_shelf v.configuration (switch n on) s)) (sym is)
         (tied v slots counts hosts flags s few t slots' bs (switch n on) k (altered v (Supply n) (one on)) refl refl (λ j b. e j (omega arith)) refl refl refl outs)
@@ -161,8 +161,8 @@ module _ (v : Value) (slots : ℕ → Slot) (counts : ℕ → ℕ) (hosts : ℕ 
         outs Lock h = t.same_outputs Lock h
 
   module _ (bs : List ℕ) (a b e : ℕ) (k : Ordered v.configuration bs (global a b e)) where
-    fifteen-tied : ((j : ℕ) → j < 14 → slots' j ≡ slots j) → Tied (value_after (global a b e) slots' v) slots' counts hosts (a ∷ b % 16 ∷ 0 ∷ []) (ordered_shelf v.configuration (global a b e) s)
-    fifteen-tied now =
+    fifteen_tied : ((j : ℕ) → j < 14 → slots' j ≡ slots j) → Tied (value_after (global a b e) slots' v) slots' counts hosts (a ∷ b % 16 ∷ 0 ∷ []) (ordered_shelf v.configuration (global a b e) s)
+    fifteen_tied now =
         tied v slots counts hosts flags s few t slots' bs (global a b e) k (put (put v Alarm x) Lock y)
         (put_conf (put v Alarm x) Lock y ∙ put_conf v Alarm x) (put_ins (put v Alarm x) Lock y ∙ put_ins v Alarm x) (λ j m. now j (omega arith)) refl refl refl outs
       where
@@ -175,11 +175,11 @@ module _ (v : Value) (slots : ℕ → Slot) (counts : ℕ → ℕ) (hosts : ℕ 
         kept : (q : Output) → same_output q Lock ≡ false → same_output q Alarm ≡ false → (put (put v Alarm x) Lock y).outputs q ≡ v.outputs q
         kept q c₁ c₂ = put_other (put v Alarm x) Lock q y c₁ ∙ put_other v Alarm q x c₂
 
-        set-alarm : v.configuration.alarm ≡ true → (put v Alarm x).outputs Alarm ≡ x
-        set-alarm f = let is : put v Alarm x ≡ altered v Alarm x = rw (f, one_fits (bit 0 a)) in ap (λ (u : Value). u.outputs Alarm) is
+        set_alarm : v.configuration.alarm ≡ true → (put v Alarm x).outputs Alarm ≡ x
+        set_alarm f = let is : put v Alarm x ≡ altered v Alarm x = rw (f, one_fits (bit 0 a)) in ap (λ (u : Value). u.outputs Alarm) is
 
-        set-lock : v.configuration.lock ≡ true → (put (put v Alarm x) Lock y).outputs Lock ≡ y
-        set-lock f =
+        set_lock : v.configuration.lock ≡ true → (put (put v Alarm x) Lock y).outputs Lock ≡ y
+        set_lock f =
             let g : (put v Alarm x).configuration.lock ≡ true = ap (λ (p : Configuration). p.lock) (put_conf v Alarm x) ∙ f in
             let is : put (put v Alarm x) Lock y ≡ altered (put v Alarm x) Lock y = rw (g, one_fits (bit 2 b)) in ap (λ (u : Value). u.outputs Lock) is
 
@@ -188,13 +188,13 @@ module _ (v : Value) (slots : ℕ → Slot) (counts : ℕ → ℕ) (hosts : ℕ 
         outs (Connection j) h = kept (Connection j) refl refl ∙ t.same_outputs (Connection j) h
         outs (Speed j) h = kept (Speed j) refl refl ∙ t.same_outputs (Speed j) h
         outs (Supply j) h = kept (Supply j) refl refl ∙ t.same_outputs (Supply j) h
-        outs Alarm h = put_other (put v Alarm x) Lock Alarm y refl ∙ set-alarm h ∙ sym (ap one (cond-true v.configuration.alarm (bit 0 a) s.rest.alarm h))
-        outs Lock h = set-lock h ∙ sym (ap one (cond-true v.configuration.lock (bit 2 b) s.rest.lock h))
+        outs Alarm h = put_other (put v Alarm x) Lock Alarm y refl ∙ set_alarm h ∙ sym (ap one (cond-true v.configuration.alarm (bit 0 a) s.rest.alarm h))
+        outs Lock h = set_lock h ∙ sym (ap one (cond-true v.configuration.lock (bit 2 b) s.rest.lock h))
 
-  pub obeyed-tied : (bs : List ℕ) (o : Order) → Ordered v.configuration bs o → ((j : ℕ) → j < 14 → slots' j ≡ slots_after o slots j)
+  pub obeyed_tied : (bs : List ℕ) (o : Order) → Ordered v.configuration bs o → ((j : ℕ) → j < 14 → slots' j ≡ slots_after o slots j)
       → Tied (value_after o slots' v) slots' counts hosts (flags_after o flags) (ordered_shelf v.configuration o s)
-  obeyed-tied bs _ (ten k l z) e = ten-tied bs k l z e
-  obeyed-tied bs _ (twelve {o = o} k l m q) e = twelve-tied bs (get_or bs 1 0) o (twelve k l m q) e
-  obeyed-tied bs _ (thirteen k l m q) e = thirteen-tied bs (get_or bs 1 0) (get_or bs 2 0) (thirteen k l m q) m q e
-  obeyed-tied bs _ (fourteen k l m q) e = fourteen-tied bs (get_or bs 1 0) (eqb (get_or bs 2 0) 1) (fourteen k l m q) m e
-  obeyed-tied bs _ (fifteen k) e = fifteen-tied bs (get_or bs 1 0) (get_or bs 2 0) (get_or bs 3 0) (fifteen k) e
+  obeyed_tied bs _ (ten k l z) e = ten_tied bs k l z e
+  obeyed_tied bs _ (twelve {o = o} k l m q) e = twelve_tied bs (get_or bs 1 0) o (twelve k l m q) e
+  obeyed_tied bs _ (thirteen k l m q) e = thirteen_tied bs (get_or bs 1 0) (get_or bs 2 0) (thirteen k l m q) m q e
+  obeyed_tied bs _ (fourteen k l m q) e = fourteen_tied bs (get_or bs 1 0) (eqb (get_or bs 2 0) 1) (fourteen k l m q) m e
+  obeyed_tied bs _ (fifteen k) e = fifteen_tied bs (get_or bs 1 0) (get_or bs 2 0) (get_or bs 3 0) (fifteen k) e

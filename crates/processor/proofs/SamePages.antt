@@ -28,27 +28,27 @@ same_cond : {A : Type 0} (b : Bool) (x x' y y' : A) → x ≡ x' → y ≡ y' �
 same_cond b x x' y y' p q = ap₂ (cond b) p q
 
 module _ (v : Value) (slots : ℕ → Slot) (counts : ℕ → ℕ) (hosts : ℕ → Host) (flags : List ℕ) (s : Shelf) (t : Tied v slots counts hosts flags s) where
-  supply-same : (k : ℕ) → k < v.configuration.counts.supplies → eqb (v.outputs (Supply k)) 1 ≡ s.parts (supply k)
-  supply-same k l = ap (λ n. eqb n 1) (t.same_outputs (Supply k) (lt-ltb k _ l)) ∙ is_one (s.parts (supply k))
+  supply_same : (k : ℕ) → k < v.configuration.counts.supplies → eqb (v.outputs (Supply k)) 1 ≡ s.parts (supply k)
+  supply_same k l = ap (λ n. eqb n 1) (t.same_outputs (Supply k) (lt-ltb k _ l)) ∙ is_one (s.parts (supply k))
 
-  status-same : status_of v.configuration (parts_of v slots) (rest_of v counts flags) ≡ status_of v.configuration s.parts s.rest
-  status-same =
+  status_same : status_of v.configuration (parts_of v slots) (rest_of v counts flags) ≡ status_of v.configuration s.parts s.rest
+  status_same =
       let c = v.configuration in
       same_status _ _
       (ap (λ (i : Inputs). listed (λ k. fan_of (i.fan k)) c.counts.fans) t.same_inputs)
       (ap (λ (i : Inputs). listed (λ k. supply_of (i.supply k) (eqb (v.outputs (Supply k)) 1)) c.counts.supplies) t.same_inputs
-      ∙ listed_same _ _ c.counts.supplies (λ k l. ap (supply_of (s.rest.inputs.supply k)) (supply-same k l)))
+      ∙ listed_same _ _ c.counts.supplies (λ k l. ap (supply_of (s.rest.inputs.supply k)) (supply_same k l)))
       refl
       (fitted_same c.lock _ _ (λ f. ap (λ n. eqb n 1) (t.same_outputs Lock f) ∙ is_one s.rest.lock))
       (fitted_same c.alarm _ _ (λ f. ap (λ n. eqb n 1) (t.same_outputs Alarm f) ∙ is_one s.rest.alarm))
       (ap (λ (i : Inputs). listed (λ k. record { 0 = i.temperature k }) c.counts.sensors) t.same_inputs)
       (ap (λ (i : Inputs). listed (λ k. i.hot k) (c.counts.sensors + c.counts.thermostats)) t.same_inputs)
 
-  pub page-same : (b : ℕ) → page_bytes v.configuration b (parts_of v slots) (rest_of v counts flags) ≡ page_bytes v.configuration b s.parts s.rest
-  page-same b =
+  pub page_same : (b : ℕ) → page_bytes v.configuration b (parts_of v slots) (rest_of v counts flags) ≡ page_bytes v.configuration b s.parts s.rest
+  page_same b =
       let d = v.configuration.counts.slots in
       same_cond (eqb b 0) _ _ _ _ refl
-      (same_cond (eqb b 1) _ _ _ _ (ap status_page status-same)
+      (same_cond (eqb b 1) _ _ _ _ (ap status_page status_same)
       (same_cond (eqb b 3) _ _ _ _ (ap insertions_page (listed_same {X = InsertionCount} _ _ d (λ k l. ap {A = ℕ} {B = InsertionCount} (λ n. record { 0 = n }) (t.same_counts k l))))
       (same_cond (eqb b 4) _ _ _ _ (ap slot_page (listed_same _ _ d (λ k l. t.same_slots k l)))
       (ap global_flags_page t.same_flags))))

@@ -21,40 +21,40 @@ use Rattle.processor.specs.declared.state.State.{State}
 
 module _ (v : Value) (slots : ℕ → history.Slot) (counts : ℕ → ℕ) (hosts : ℕ → history.Host) (flags : List ℕ) (s : history.Shelf) (few : v.configuration.counts.slots ≤ 14) (t : Tied v slots counts hosts flags s)
     (q : Inputs) (slots' : ℕ → history.Slot) (counts' : ℕ → ℕ)
-    (slots-now : (k : ℕ) → k < 14 → slots' k ≡ cond (ltb k v.configuration.counts.slots) (sampled_slot (inserted (slots k).state) (q.present k) (slots k)) (slots k))
-    (counts-now : (k : ℕ) → k < 14 → counts' k ≡ cond (ltb k v.configuration.counts.slots) (counted (inserted (slots k).state) (q.present k) (counts k)) (counts k)) where
+    (slots_now : (k : ℕ) → k < 14 → slots' k ≡ cond (ltb k v.configuration.counts.slots) (sampled_slot (inserted (slots k).state) (q.present k) (slots k)) (slots k))
+    (counts_now : (k : ℕ) → k < 14 → counts' k ≡ cond (ltb k v.configuration.counts.slots) (counted (inserted (slots k).state) (q.present k) (counts k)) (counts k)) where
   abbrev seen_value : Value
   seen_value = meaning.sampled v (Some q)
 
-  abbrev value-now : Value
-  value-now = made_where (slots_below v.configuration.counts.slots) (slot_number slots') seen_value
+  abbrev value_now : Value
+  value_now = made_where (slots_below v.configuration.counts.slots) (slot_number slots') seen_value
 
   was : (k : ℕ) → k < v.configuration.counts.slots → inserted (slots k).state ≡ s.rest.inputs.present k
   was k l = ap (λ (x : history.Slot). inserted x.state) (t.same_slots k l) ∙ sym (t.present k l)
 
-  slot-now : (k : ℕ) → k < v.configuration.counts.slots → slots' k ≡ (sampled q s).parts (history.slot k)
-  slot-now k l =
-      slots-now k (omega arith) ∙ cond-true (ltb k v.configuration.counts.slots) _ _ (lt-ltb k _ l)
+  slot_now : (k : ℕ) → k < v.configuration.counts.slots → slots' k ≡ (sampled q s).parts (history.slot k)
+  slot_now k l =
+      slots_now k (omega arith) ∙ cond-true (ltb k v.configuration.counts.slots) _ _ (lt-ltb k _ l)
       ∙ ap₂ (λ (b : Bool) (x : history.Slot). sampled_slot b (q.present k) x) (was k l) (t.same_slots k l)
 
-  count-now : (k : ℕ) → k < v.configuration.counts.slots → counts' k ≡ (sampled q s).rest.counts k
-  count-now k l =
-      counts-now k (omega arith) ∙ cond-true (ltb k v.configuration.counts.slots) _ _ (lt-ltb k _ l)
+  count_now : (k : ℕ) → k < v.configuration.counts.slots → counts' k ≡ (sampled q s).rest.counts k
+  count_now k l =
+      counts_now k (omega arith) ∙ cond-true (ltb k v.configuration.counts.slots) _ _ (lt-ltb k _ l)
       ∙ ap₂ (λ (b : Bool) (n : ℕ). counted b (q.present k) n) (was k l) (t.same_counts k l)
 
-  outs : (o : Output) → has v.configuration o ≡ true → value-now.outputs o ≡ output (sampled q s) o
-  outs (Lamp k) h = cond-true (ltb k v.configuration.counts.slots) _ _ h ∙ ap slot_lamp (slot-now k (ltb-true k _ h))
-  outs (Connection k) h = cond-true (ltb k v.configuration.counts.slots) _ _ h ∙ ap (λ (x : history.Slot). one (connected x)) (slot-now k (ltb-true k _ h))
+  outs : (o : Output) → has v.configuration o ≡ true → value_now.outputs o ≡ output (sampled q s) o
+  outs (Lamp k) h = cond-true (ltb k v.configuration.counts.slots) _ _ h ∙ ap slot_lamp (slot_now k (ltb-true k _ h))
+  outs (Connection k) h = cond-true (ltb k v.configuration.counts.slots) _ _ h ∙ ap (λ (x : history.Slot). one (connected x)) (slot_now k (ltb-true k _ h))
   outs (Speed k) h = t.same_outputs (Speed k) h
   outs (Supply k) h = t.same_outputs (Supply k) h
   outs Alarm h = t.same_outputs Alarm h
   outs Lock h = t.same_outputs Lock h
 
-  pub sampled-tied : Tied value-now slots' counts' hosts flags (sampled q s)
-  sampled-tied =
+  pub sampled_tied : Tied value_now slots' counts' hosts flags (sampled q s)
+  sampled_tied =
       record {
-        same_slots = slot-now;
-        same_counts = count-now;
+        same_slots = slot_now;
+        same_counts = count_now;
         same_hosts = t.same_hosts;
         same_flags = t.same_flags;
         same_inputs = refl;
@@ -73,22 +73,22 @@ retied v v' slots counts hosts hosts' flags flags' s a b c t =
 -- a frame that reads as inputs, sampled
 module _ (w : history.World) (v : Value) (conf : w.configuration ≡ v.configuration) (few : v.configuration.counts.slots ≤ 14) (k k' : State) (on : k.powered ≡ true) (frame : List ℕ) (v₁ v₂ : Value)
     (well : reads_well (w.reading frame) ≡ true) (seen : v₁ ≡ meaning.sampled v (w.reading frame))
-    (slots-now : (j : ℕ) → j < 14 → slots_of k'.memory.table j ≡ cond (ltb j v₁.configuration.counts.slots) (sampled_slot (inserted (slots_of k.memory.table j).state) (v₁.inputs.present j) (slots_of k.memory.table j)) (slots_of k.memory.table j))
-    (counts-now : (j : ℕ) → j < 14 → counts_of k'.memory.table j ≡ cond (ltb j v₁.configuration.counts.slots) (counted (inserted (slots_of k.memory.table j).state) (v₁.inputs.present j) (counts_of k.memory.table j)) (counts_of k.memory.table j))
+    (slots_now : (j : ℕ) → j < 14 → slots_of k'.memory.table j ≡ cond (ltb j v₁.configuration.counts.slots) (sampled_slot (inserted (slots_of k.memory.table j).state) (v₁.inputs.present j) (slots_of k.memory.table j)) (slots_of k.memory.table j))
+    (counts_now : (j : ℕ) → j < 14 → counts_of k'.memory.table j ≡ cond (ltb j v₁.configuration.counts.slots) (counted (inserted (slots_of k.memory.table j).state) (v₁.inputs.present j) (counts_of k.memory.table j)) (counts_of k.memory.table j))
     (shown : v₂ ≡ made_where (slots_below v₁.configuration.counts.slots) (slot_number (slots_of k'.memory.table)) v₁)
     (same_hosts : k'.hosts ≡ k.hosts) (same_flags : k'.memory.flags ≡ k.memory.flags) (still : k'.powered ≡ k.powered) where
-  pub sample-follows : (s : history.State) → TiedTo v k s → Called w s (history.sample frame) (Ok tt) v₂ k'
-  sample-follows history.unpowered t = absurd (both_ways k.powered t on)
-  sample-follows (history.powered s) t = go (w.reading frame) refl
+  pub sample_follows : (s : history.State) → TiedTo v k s → Called w s (history.sample frame) (Ok tt) v₂ k'
+  sample_follows history.unpowered t = absurd (both_ways k.powered t on)
+  sample_follows (history.powered s) t = go (w.reading frame) refl
     where
       go : (o : Option Inputs) → w.reading frame ≡ o → Called w (history.powered s) (history.sample frame) (Ok tt) v₂ k'
       go None e = absurd (both_ways (reads_well (w.reading frame)) (ap reads_well e) well)
       go (Some q) e =
           let x : v₁ ≡ meaning.sampled v (Some q) = seen ∙ ap (meaning.sampled v) e in
-          let ss = subst (λ (u : Value). (j : ℕ) → j < 14 → slots_of k'.memory.table j ≡ cond (ltb j u.configuration.counts.slots) (sampled_slot (inserted (slots_of k.memory.table j).state) (u.inputs.present j) (slots_of k.memory.table j)) (slots_of k.memory.table j)) x slots-now in
-          let cs = subst (λ (u : Value). (j : ℕ) → j < 14 → counts_of k'.memory.table j ≡ cond (ltb j u.configuration.counts.slots) (counted (inserted (slots_of k.memory.table j).state) (u.inputs.present j) (counts_of k.memory.table j)) (counts_of k.memory.table j)) x counts-now in
+          let ss = subst (λ (u : Value). (j : ℕ) → j < 14 → slots_of k'.memory.table j ≡ cond (ltb j u.configuration.counts.slots) (sampled_slot (inserted (slots_of k.memory.table j).state) (u.inputs.present j) (slots_of k.memory.table j)) (slots_of k.memory.table j)) x slots_now in
+          let cs = subst (λ (u : Value). (j : ℕ) → j < 14 → counts_of k'.memory.table j ≡ cond (ltb j u.configuration.counts.slots) (counted (inserted (slots_of k.memory.table j).state) (u.inputs.present j) (counts_of k.memory.table j)) (counts_of k.memory.table j)) x counts_now in
           let y = shown ∙ ap (λ (u : Value). made_where (slots_below u.configuration.counts.slots) (slot_number (slots_of k'.memory.table)) u) x in
-          let z = sampled-tied v (slots_of k.memory.table) (counts_of k.memory.table) (hosts_of k.hosts) k.memory.flags s few t.1 q (slots_of k'.memory.table) (counts_of k'.memory.table) ss cs in
+          let z = sampled_tied v (slots_of k.memory.table) (counts_of k.memory.table) (hosts_of k.hosts) k.memory.flags s few t.1 q (slots_of k'.memory.table) (counts_of k'.memory.table) ss cs in
           let tied : Tied v₂ (slots_of k'.memory.table) (counts_of k'.memory.table) (hosts_of k'.hosts) k'.memory.flags (sampled q s)
           = retied _ v₂ (slots_of k'.memory.table) (counts_of k'.memory.table) (hosts_of k.hosts) (hosts_of k'.hosts) k.memory.flags k'.memory.flags (sampled q s) y (ap hosts_of same_hosts) same_flags z in
           record {

@@ -8,7 +8,7 @@ use Rattle.verdicts.specs.Judged.{verdict_as}
 use Rattle.processor.specs.Follows.{world_of}
 use Rattle.processor.proofs.Keeping.{become, order_keeps}
 use Rattle.processor.proofs.NotRefused.{not_refused}
-use Rattle.processor.proofs.Following.{Facts, done-follows, refused-follows}
+use Rattle.processor.proofs.Following.{Facts, done_follows, refused_follows}
 use Rattle.processor.proofs.state.State.command.Goals as goal
 
 pub returns-in-Refuse : goal.returns-in-Refuse
@@ -22,7 +22,7 @@ returns-in-Refuse g c =
     = c.judge-verdict.ensures ∙ ap (λ (f : Configuration). judge f c.get.result.attention cmd) c.configuration.ensures ∙ ap (λ (h : Host). judge v.configuration h.attention cmd) c.get.ensures in
     let e = sym j ∙ ap verdict_as c.in-Refuse.is in
     record {
-      follows = λ s t. refused-follows w v refl (g.B.Backplane.bounded c.args.b.now).slots k on cmd c.in-Refuse.refusal e s t c.args.buffer.now;
+      follows = λ s t. refused_follows w v refl (g.B.Backplane.bounded c.args.b.now).slots k on cmd c.in-Refuse.refusal e s t c.args.buffer.now;
       refused = ((refl, refl), refl);
       keeps = (refl, refl);
       identity = refl;
@@ -46,15 +46,15 @@ returns g c =
       go = go;
       says = did.says go;
       lays = did.lays;
-      hosts-now = did.hosts;
-      slots-now = did.slots;
-      counts-now = did.counts;
-      flags-now = did.flags;
+      hosts_now = did.hosts;
+      slots_now = did.slots;
+      counts_now = did.counts;
+      flags_now = did.flags;
       does = did.does;
       still = did.rest.0;
     } in
     record {
-      follows = λ s t. done-follows w v refl (g.B.Backplane.bounded c.args.b.now).slots k on cmd (g.B.Backplane.value c.settle.new.b) c.settle.new.self c.args.buffer.now c.settle.new.buffer c.settle.result x j facts s t;
+      follows = λ s t. done_follows w v refl (g.B.Backplane.bounded c.args.b.now).slots k on cmd (g.B.Backplane.value c.settle.new.b) c.settle.new.self c.args.buffer.now c.settle.new.buffer c.settle.result x j facts s t;
       refused = (tt, tt);
       keeps = (kept.parts, kept.beside);
       identity = did.rest.1;
