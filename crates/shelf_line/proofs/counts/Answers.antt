@@ -2,25 +2,25 @@ use Rattle.std.proofs.Common.{rules}
 use Rattle.shelf_line.specs.ShelfLine.{counts_asked}
 use Rattle.shelf_line.proofs.counts.Goals as goal
 
-pub returns-in-err-fans : goal.returns-in-err-fans
+pub returns-in_err-fans : goal.returns-in_err-fans
 unfolding counts_asked
-returns-in-err-fans c = search rules
+returns-in_err-fans c = search rules
 
-pub returns-in-err-supplies : goal.returns-in-err-supplies
+pub returns-in_err-supplies : goal.returns-in_err-supplies
 unfolding counts_asked
-returns-in-err-supplies c = search rules
+returns-in_err-supplies c = search rules
 
-pub returns-in-err-slots : goal.returns-in-err-slots
+pub returns-in_err-slots : goal.returns-in_err-slots
 unfolding counts_asked
-returns-in-err-slots c = search rules
+returns-in_err-slots c = search rules
 
-pub returns-in-err-sensors : goal.returns-in-err-sensors
+pub returns-in_err-sensors : goal.returns-in_err-sensors
 unfolding counts_asked
-returns-in-err-sensors c = search rules
+returns-in_err-sensors c = search rules
 
-pub returns-in-err-thermostats : goal.returns-in-err-thermostats
+pub returns-in_err-thermostats : goal.returns-in_err-thermostats
 unfolding counts_asked
-returns-in-err-thermostats c = search rules
+returns-in_err-thermostats c = search rules
 
 pub returns : goal.returns
 unfolding counts_asked

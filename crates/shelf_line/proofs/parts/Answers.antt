@@ -2,29 +2,29 @@ use Rattle.std.proofs.Common.{rules}
 use Rattle.shelf_line.specs.ShelfLine.{parts_asked}
 use Rattle.shelf_line.proofs.parts.Goals as goal
 
-pub returns-in-err-counts : goal.returns-in-err-counts
+pub returns-in_err-counts : goal.returns-in_err-counts
 unfolding parts_asked
-returns-in-err-counts c = search rules
+returns-in_err-counts c = search rules
 
-pub returns-in-err-lock : goal.returns-in-err-lock
+pub returns-in_err-lock : goal.returns-in_err-lock
 unfolding parts_asked
-returns-in-err-lock c = search rules
+returns-in_err-lock c = search rules
 
-pub returns-in-err-alarm : goal.returns-in-err-alarm
+pub returns-in_err-alarm : goal.returns-in_err-alarm
 unfolding parts_asked
-returns-in-err-alarm c = search rules
+returns-in_err-alarm c = search rules
 
-pub returns-in-err-ids : goal.returns-in-err-ids
+pub returns-in_err-ids : goal.returns-in_err-ids
 unfolding parts_asked
-returns-in-err-ids c = search rules
+returns-in_err-ids c = search rules
 
-pub returns-in-err-keyword : goal.returns-in-err-keyword
+pub returns-in_err-keyword : goal.returns-in_err-keyword
 unfolding parts_asked
-returns-in-err-keyword c = search rules
+returns-in_err-keyword c = search rules
 
-pub returns-in-err-identity : goal.returns-in-err-identity
+pub returns-in_err-identity : goal.returns-in_err-identity
 unfolding parts_asked
-returns-in-err-identity c = search rules
+returns-in_err-identity c = search rules
 
 pub returns : goal.returns
 unfolding parts_asked

@@ -2,22 +2,22 @@ use Rattle.std.proofs.Common.{rules}
 use Rattle.shelf_line.specs.ShelfLine.{shelf_asked}
 use Rattle.shelf_line.proofs.shelf.Goals as goal
 
-pub returns-in-err-kind : goal.returns-in-err-kind
+pub returns-in_err-kind : goal.returns-in_err-kind
 unfolding shelf_asked
-returns-in-err-kind c = search rules
+returns-in_err-kind c = search rules
 
-pub returns-in-err-parts : goal.returns-in-err-parts
+pub returns-in_err-parts : goal.returns-in_err-parts
 unfolding shelf_asked
-returns-in-err-parts c = search rules
+returns-in_err-parts c = search rules
 
-pub returns-in-err-image : goal.returns-in-err-image
+pub returns-in_err-image-in-Packed : goal.returns-in_err-image-in-Packed
 unfolding shelf_asked
-returns-in-err-image c = search rules
+returns-in_err-image-in-Packed c = search rules
 
 pub returns-in-Plain : goal.returns-in-Plain
 unfolding shelf_asked
 returns-in-Plain c = search rules
 
-pub returns-in-ok-image : goal.returns-in-ok-image
+pub returns-in_ok-image-in-Packed : goal.returns-in_ok-image-in-Packed
 unfolding shelf_asked
-returns-in-ok-image c = search rules
+returns-in_ok-image-in-Packed c = search rules

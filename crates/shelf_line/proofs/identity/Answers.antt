@@ -1,0 +1,23 @@
+use Rattle.std.proofs.Common.{◌≡◌, Some, None, rules, arith}
+use Rattle.expected.specs.declared.Expected.TheVariants as expected
+use Rattle.words.specs.Words.{left}
+use Rattle.shelf_line.specs.ShelfLine.{identity_read}
+use Rattle.shelf_line.proofs.FirstWord.{word_told, identity_some, identity_other, identity_unread}
+use Rattle.shelf_line.proofs.identity.Goals as goal
+use Rattle.shelf_line.proofs.identity.Goals.{in_default-via-in-Ok+else-len-eq-IDENTITY, in_default-via-in-Err+in_default}
+
+pub returns-in-Ok : goal.returns-in-Ok
+returns-in-Ok c =
+    let word = c.in-Some.word.now in
+    let bytes = c.in-Ok.bytes.items in
+    let read = identity_some word bytes c.in-Ok.ensures (omega arith) in
+    word_told expected.Identity identity_read (left c.args.words.now) (left c.next.new.self) word (Some bytes) c.in-Some.ensures read
+
+pub returns-in-Some : goal.returns-in-Some
+returns-in-Some c =
+    let word = c.in-Some.word.now in
+    let read : identity_read word ≡ None = elim c.in_default.branch [
+      | in_default-via-in-Ok+else-len-eq-IDENTITY w ↦ identity_other word w.in-Ok.bytes.items w.in-Ok.ensures (λ e. omega arith)
+      | in_default-via-in-Err+in_default w ↦ identity_unread word c.read_bytes.result w.in_default.field-0 w.in_default.is (search rules) c.read_bytes.ensures
+    ] in
+    word_told expected.Identity identity_read (left c.args.words.now) (left c.next.new.self) word None c.in-Some.ensures read
