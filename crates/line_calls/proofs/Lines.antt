@@ -1,5 +1,5 @@
 -- A line's first word, and the call that the others make of it.
-use Rattle.std.proofs.Common.{◌≡◌, ℕ, List, [], ◌∷◌, Some, None, Ok, Err, Option, Result, sym, refl, ap, ◌∙◌, subst, arith}
+use Rattle.std.proofs.Common.{◌≡◌, ℕ, List, [], ◌∷◌, Some, Err, Option, Result, sym, ap, ◌∙◌, subst, arith}
 use Rattle.std.specs.Option.{option_map}
 use Rattle.words.specs.Words.{taken}
 use Rattle.line_calls.specs.Calls.{Heard, call_read, heard, line_read, only_call}
