@@ -4,7 +4,6 @@ use Rattle.words.specs.Words.{left}
 use Rattle.shelf_line.specs.ShelfLine.{identity_read}
 use Rattle.shelf_line.proofs.FirstWord.{word_told, identity_some, identity_other, identity_unread}
 use Rattle.shelf_line.proofs.identity.Goals as goal
-use Rattle.shelf_line.proofs.identity.Goals.{in_default-via-in-Ok+else-len-eq-IDENTITY, in_default-via-in-Err+in_default}
 
 pub returns-in-Ok : goal.returns-in-Ok
 returns-in-Ok c =
@@ -16,8 +15,5 @@ returns-in-Ok c =
 pub returns-in-Some : goal.returns-in-Some
 returns-in-Some c =
     let word = c.in-Some.word.now in
-    let read : identity_read word ≡ None = elim c.in_default.branch [
-      | in_default-via-in-Ok+else-len-eq-IDENTITY w ↦ identity_other word w.in-Ok.bytes.items w.in-Ok.ensures (λ e. omega arith)
-      | in_default-via-in-Err+in_default w ↦ identity_unread word c.read_bytes.result w.in_default.field-0 w.in_default.is (search rules) c.read_bytes.ensures
-    ] in
+    let read : identity_read word ≡ None = search (rules, identity_other, identity_unread) in
     word_told expected.Identity identity_read (left c.args.words.now) (left c.next.new.self) word None c.in-Some.ensures read
