@@ -10,6 +10,6 @@ pub returns-in-Ok-Some : goal.returns-in-Ok-Some
 unfolding line_spoken line_next
 returns-in-Ok-Some c = search rules
 
-pub returns-in_ok-text : goal.returns-in_ok-text
+pub returns-in_ok-text-in-Err-Unreadable : goal.returns-in_ok-text-in-Err-Unreadable
 unfolding line_spoken line_next
-returns-in_ok-text c = search rules
+returns-in_ok-text-in-Err-Unreadable c = search rules
