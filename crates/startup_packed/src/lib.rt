@@ -1,7 +1,7 @@
 // Switching on over a caller's image: what the image then holds, bit by bit, through code that knows the interface alone.
 #![tactic(auto)]
 
-ghost use Rattle.std.specs.Prelude.{◌≡◌, ℕ, is_ok};
+ghost use Rattle.std.specs.Prelude.{◌≡◌, ℕ, length, is_ok};
 ghost use Rattle.bits.specs.Image.{bit};
 ghost use Rattle.packed.specs.Frame.{well_formed};
 ghost use Rattle.packed.specs.Layout.{fitted_with};
@@ -23,6 +23,7 @@ pub fn switch_on_packed(
 ) -> Result<(), Unread>
     ensures says { is_ok result ≡ well_formed (fitted_with counts lock alarm ids.now image.old) frame.now }
     ensures bits { (k : ℕ) → bit image.new k ≡ started_bit (fitted_with counts lock alarm ids.now image.old) frame.now image.old k }
+    ensures size { length image.new ≡ length image.old }
 {
     let mut b = Packed::new(counts, lock, alarm, ids, image);
     switch_on(&mut b, frame)

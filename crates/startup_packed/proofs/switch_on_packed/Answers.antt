@@ -8,8 +8,14 @@ use Rattle.startup.specs.Started.{switched_on}
 use Rattle.startup_packed.proofs.Switched.{at_same, reads, told}
 use Rattle.startup_packed.proofs.switch_on_packed.Goals as goal
 
-pub returns : goal.returns
-returns c =
+pub returns-clause-says : goal.returns-clause-says
+returns-clause-says c =
+    let frame = c.args.frame.now in
+    let parts = fitted_with c.args.counts c.args.lock c.args.alarm c.args.ids.now c.args.image.now in
+    c.switch_on.ensures.says ∙ ap (λ v. reads_well (reading v.configuration frame)) c.new-b.ensures.shows ∙ reads parts frame
+
+pub returns-clause-bits : goal.returns-clause-bits
+returns-clause-bits c =
     let old = c.args.image.now in
     let frame = c.args.frame.now in
     let parts = fitted_with c.args.counts c.args.lock c.args.alarm c.args.ids.now old in
@@ -17,7 +23,4 @@ returns c =
     let total = c.switch_on.ensures.does ∙ ap (λ v. switched_on v (reading v.configuration frame)) c.new-b.ensures.shows in
     let e = told parts last.configuration (few_fitted c.args.counts c.args.lock c.args.alarm c.args.ids.now old) frame last.frame old last.image.now _ last.image.ghost_name total in
     let lender = e.lender in
-    record {
-      says = c.switch_on.ensures.says ∙ ap (λ v. reads_well (reading v.configuration frame)) c.new-b.ensures.shows ∙ reads parts frame;
-      bits = λ k. at_same (λ i. bit i k) last.image.now _ _ (search rules) (e.bits k);
-    }
+    λ k. at_same (λ i. bit i k) last.image.now _ _ (search rules) (e.bits k)
