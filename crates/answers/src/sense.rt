@@ -1,4 +1,4 @@
-// Sense: why a command got CHECK CONDITION.
+// Sense: why a command got CHECK CONDITION. It has three numbers, each with a method of its own, since a `From` gives only one.
 ghost use Rattle.std.specs.Prelude.{◌≡◌};
 ghost use Rattle.answers.specs.Numbers.{sense_code, sense_key, sense_qualifier};
 

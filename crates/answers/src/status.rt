@@ -8,11 +8,12 @@ pub enum Status {
     CheckCondition,
 }
 
-impl Status {
-    pub fn byte(self) -> u8
-        ensures { result ≡ status_byte self }
-    {
-        match self {
+// The byte of the status.
+impl From<Status> for u8 {
+    ghost from_gives = { λ status byte. byte ≡ status_byte status };
+
+    fn from(status: Status) -> u8 {
+        match status {
             Status::Good => 0x00,
             Status::CheckCondition => 0x02,
         }

@@ -1,5 +1,6 @@
 -- A record is the one that its own bytes make.
-use Rattle.std.proofs.Common.{◌≡◌, ℕ, Bool, true, false, T, Some, None, Option, refl}
+use Rattle.std.proofs.Common.{◌≡◌, ℕ, Bool, true, false, T, Some, Ok, sym, refl, ap}
+use Rattle.std.specs.Option.{ok_or}
 use Rattle.enclosure.specs.declared.record.SlotRecord.{SlotRecord}
 use Rattle.enclosure.specs.Flags.{sound}
 use Rattle.enclosure.specs.Records.{record_if, record_made}
@@ -10,3 +11,6 @@ if_sound flags more false f c = absurd c
 
 pub record_back : (r : SlotRecord) → record_made r.flags r.more ≡ Some r
 record_back r = if_sound r.flags r.more (sound r.flags r.more) (λ t. t) r.sound
+
+pub record_kept : {E : Type 0} (r : SlotRecord) (e : E) → Ok r ≡ ok_or (record_made r.flags r.more) e
+record_kept r e = ap (λ o. ok_or o e) (sym (record_back r))

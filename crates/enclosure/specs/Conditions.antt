@@ -1,5 +1,5 @@
 -- Conditions of parts, and the codes that show them.
-use Rattle.std.specs.Prelude.{ℕ, Bool, true, false, cond, Some, None, Option, ◌==◌}
+use Rattle.std.specs.Prelude.{ℕ, Bool, cond, Some, None, Option, ◌==◌}
 use Rattle.enclosure.specs.declared.codes.FanCode.{FanCode}
 use Rattle.enclosure.specs.declared.codes.FanCode.TheVariants.{Works as FanWorks, Broken as FanBroken, Absent as NoFan, Unknown as FanUnknown}
 use Rattle.enclosure.specs.declared.codes.SupplyCode.{SupplyCode}

@@ -1,8 +1,10 @@
 // How a part fares, and the code that the status page shows for it.
 ghost use Rattle.std.specs.Prelude.{◌≡◌};
+ghost use Rattle.std.specs.Option.{ok_or};
 ghost use Rattle.enclosure.specs.Conditions.{condition_number, condition_numbered, fan_of, supply_of};
 
 use crate::codes::{FanCode, SupplyCode};
+use crate::unknown::UnknownByte;
 
 #[derive(Clone, Copy)]
 pub enum Condition {
@@ -14,12 +16,12 @@ pub enum Condition {
     Unknown,
 }
 
-impl Condition {
-    // The number of the condition.
-    pub fn number(self) -> u8
-        ensures { result ≡ condition_number self }
-    {
-        match self {
+// The number of the condition.
+impl From<Condition> for u8 {
+    ghost from_gives = { λ condition number. number ≡ condition_number condition };
+
+    fn from(condition: Condition) -> u8 {
+        match condition {
             Condition::Works => 0,
             Condition::Broken => 1,
             Condition::Absent => 2,
@@ -27,27 +29,31 @@ impl Condition {
             Condition::Unknown => 4,
         }
     }
+}
 
-    // The condition that a number names, if it names one.
-    pub fn from_number(number: u8) -> Option<Condition>
-        ensures { result ≡ condition_numbered number }
-    {
+// The condition that a number names, if it names one.
+impl TryFrom<u8> for Condition {
+    type Error = UnknownByte;
+
+    ghost try_from_gives = { λ number condition. condition ≡ ok_or (condition_numbered number) (record { 0 = number }) };
+
+    fn try_from(number: u8) -> Result<Condition, UnknownByte> {
         match number {
-            0 => Some(Condition::Works),
-            1 => Some(Condition::Broken),
-            2 => Some(Condition::Absent),
-            3 => Some(Condition::PresentOnly),
-            4 => Some(Condition::Unknown),
-            _ => None,
+            0 => Ok(Condition::Works),
+            1 => Ok(Condition::Broken),
+            2 => Ok(Condition::Absent),
+            3 => Ok(Condition::PresentOnly),
+            4 => Ok(Condition::Unknown),
+            _ => Err(UnknownByte(number)),
         }
     }
 }
 
-impl FanCode {
-    // The code of a fan in a condition.
-    pub fn of(condition: Condition) -> FanCode
-        ensures { result ≡ fan_of condition }
-    {
+// The code of a fan in a condition.
+impl From<Condition> for FanCode {
+    ghost from_gives = { λ condition code. code ≡ fan_of condition };
+
+    fn from(condition: Condition) -> FanCode {
         match condition {
             Condition::Works => FanCode::Works,
             Condition::Broken => FanCode::Broken,
@@ -58,7 +64,7 @@ impl FanCode {
 }
 
 impl SupplyCode {
-    // The code of a supply in a condition, switched on or off.
+    // The code of a supply in a condition, switched on or off. It has two arguments, and so is no `From`.
     pub fn of(condition: Condition, on: bool) -> SupplyCode
         ensures { result ≡ supply_of condition on }
     {

@@ -8,3 +8,4 @@ pub mod record;
 pub mod slots;
 #[cfg(test)]
 mod tests;
+pub mod unknown;

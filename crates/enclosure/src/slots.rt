@@ -1,6 +1,9 @@
 // The physical state of a slot, and how events move it.
 ghost use Rattle.std.specs.Prelude.{◌≡◌};
+ghost use Rattle.std.specs.Option.{ok_or};
 ghost use Rattle.enclosure.specs.Slots.{moved, state_byte, state_read};
+
+use crate::unknown::UnknownByte;
 
 // Whether a drive is in the slot, and whether the slot is prepared for operation.
 #[derive(Clone, Copy)]
@@ -37,29 +40,35 @@ impl PhysicalState {
             (state, _) => state,
         }
     }
+}
 
-    // The state as byte 3 of a slot.
-    pub fn byte(self) -> u8
-        ensures { result ≡ state_byte self }
-    {
-        match self {
+// The state as byte 3 of a slot.
+impl From<PhysicalState> for u8 {
+    ghost from_gives = { λ state byte. byte ≡ state_byte state };
+
+    fn from(state: PhysicalState) -> u8 {
+        match state {
             PhysicalState::EmptyReady => 0x02,
             PhysicalState::InsertedReady => 0x03,
             PhysicalState::EmptyPrepared => 0x04,
             PhysicalState::InsertedPrepared => 0x05,
         }
     }
+}
 
-    // The state that a byte is, if it is one.
-    pub fn from_byte(byte: u8) -> Option<PhysicalState>
-        ensures { result ≡ state_read byte }
-    {
+// The state that a byte is, if it is one.
+impl TryFrom<u8> for PhysicalState {
+    type Error = UnknownByte;
+
+    ghost try_from_gives = { λ byte state. state ≡ ok_or (state_read byte) (record { 0 = byte }) };
+
+    fn try_from(byte: u8) -> Result<PhysicalState, UnknownByte> {
         match byte {
-            0x02 => Some(PhysicalState::EmptyReady),
-            0x03 => Some(PhysicalState::InsertedReady),
-            0x04 => Some(PhysicalState::EmptyPrepared),
-            0x05 => Some(PhysicalState::InsertedPrepared),
-            _ => None,
+            0x02 => Ok(PhysicalState::EmptyReady),
+            0x03 => Ok(PhysicalState::InsertedReady),
+            0x04 => Ok(PhysicalState::EmptyPrepared),
+            0x05 => Ok(PhysicalState::InsertedPrepared),
+            _ => Err(UnknownByte(byte)),
         }
     }
 }

@@ -14,15 +14,15 @@ fn events_move_the_state(rt: HostRuntime) -> Result<(), Fail> {
         (3, 5, 3, 3, 2),
         (5, 5, 3, 5, 2),
     ] {
-        let state = PhysicalState::from_byte(from).ok_or("no state")?;
-        assert_eq!(rt; state.byte(), from);
-        assert_eq!(rt; state.after(SlotEvent::Prepare).byte(), prepare);
-        assert_eq!(rt; state.after(SlotEvent::Release).byte(), release);
-        assert_eq!(rt; state.after(SlotEvent::Insertion).byte(), insertion);
-        assert_eq!(rt; state.after(SlotEvent::Removal).byte(), removal);
+        let state = PhysicalState::try_from(from).map_err(|_| "no state")?;
+        assert_eq!(rt; u8::from(state), from);
+        assert_eq!(rt; u8::from(state.after(SlotEvent::Prepare)), prepare);
+        assert_eq!(rt; u8::from(state.after(SlotEvent::Release)), release);
+        assert_eq!(rt; u8::from(state.after(SlotEvent::Insertion)), insertion);
+        assert_eq!(rt; u8::from(state.after(SlotEvent::Removal)), removal);
     }
-    assert!(rt; PhysicalState::from_byte(1).is_none());
-    assert!(rt; PhysicalState::from_byte(6).is_none());
+    assert!(rt; PhysicalState::try_from(1).is_err());
+    assert!(rt; PhysicalState::try_from(6).is_err());
     Ok(())
 }
 
@@ -38,14 +38,14 @@ fn rows_are_checked(rt: HostRuntime) {
         (0, 0x80, 0, false),
         (0, 0, 1, false),
     ] {
-        match SlotRecord::from_row(Row { flags, more, last }) {
-            Some(record) => {
+        match SlotRecord::try_from(Row { flags, more, last }) {
+            Ok(record) => {
                 assert!(rt; sound);
-                assert_eq!(rt; record.row().flags, flags);
-                assert_eq!(rt; record.row().more, more);
-                assert_eq!(rt; record.row().last, 0);
+                assert_eq!(rt; Row::from(record).flags, flags);
+                assert_eq!(rt; Row::from(record).more, more);
+                assert_eq!(rt; Row::from(record).last, 0);
             }
-            None => assert!(rt; !sound),
+            Err(_) => assert!(rt; !sound),
         }
     }
 }
@@ -56,13 +56,13 @@ fn codes_have_their_numbers(rt: HostRuntime) {
     let mut fans = 0u32;
     let mut supplies = 0u32;
     for byte in 0..=255u8 {
-        if let Some(code) = FanCode::from_byte(byte) {
-            assert_eq!(rt; code.byte(), byte);
+        if let Ok(code) = FanCode::try_from(byte) {
+            assert_eq!(rt; u8::from(code), byte);
             assert!(rt; byte < 3 || byte == 0x80);
             fans = fans.saturating_add(1);
         }
-        if let Some(code) = SupplyCode::from_byte(byte) {
-            assert_eq!(rt; code.byte(), byte);
+        if let Ok(code) = SupplyCode::try_from(byte) {
+            assert_eq!(rt; u8::from(code), byte);
             assert!(rt; byte / 16 < 3 && byte % 16 < 2 || byte == 0x80);
             supplies = supplies.saturating_add(1);
         }

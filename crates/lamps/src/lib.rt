@@ -20,7 +20,7 @@ pub enum Lamp {
 }
 
 impl Lamp {
-    // The lamp of a slot with this record: the first that applies.
+    // The lamp of a slot with this record: the first that applies. It has two arguments, and so is no `From`.
     pub fn of(record: Row, identify: bool) -> Lamp
         ensures { result ≡ lamp_of «record» identify }
     {
@@ -43,12 +43,14 @@ impl Lamp {
             Lamp::Off
         }
     }
+}
 
-    // The number that a lamp is set to.
-    pub fn number(self) -> u8
-        ensures { result ≡ lamp_number self }
-    {
-        match self {
+// The number that a lamp is set to.
+impl From<Lamp> for u8 {
+    ghost from_gives = { λ lamp number. number ≡ lamp_number lamp };
+
+    fn from(lamp: Lamp) -> u8 {
+        match lamp {
             Lamp::Off => 0,
             Lamp::NoError => 1,
             Lamp::Faulty => 2,

@@ -25,8 +25,8 @@ fn holds(rt: &impl Abort, buffer: &[u8], page: &[u8]) {
 fn status_of_a_small_shelf(rt: HostRuntime) {
     let parts = StatusParts {
         fans: &[
-            FanCode::of(Condition::Works),
-            FanCode::of(Condition::PresentOnly),
+            FanCode::from(Condition::Works),
+            FanCode::from(Condition::PresentOnly),
         ],
         supplies: &[
             SupplyCode::of(Condition::Broken, false),
@@ -103,7 +103,7 @@ fn slots_and_insertions(rt: HostRuntime) -> Result<(), Fail> {
         more: 3,
         last: 0,
     };
-    let Some(record) = SlotRecord::from_row(row) else {
+    let Ok(record) = SlotRecord::try_from(row) else {
         return Err(Fail::new("no record"));
     };
     let empty = Slot {

@@ -48,13 +48,13 @@ impl Part for FanCode {
     }
 
     fn lay(&self, out: &mut [u8]) -> bool {
-        let fan = self.byte();
+        let fan = u8::from(*self);
         fill(out, &[fan])
     }
 
     fn read(bytes: &[u8]) -> Option<FanCode> {
         match bytes {
-            [only] => FanCode::from_byte(*only),
+            [only] => FanCode::try_from(*only).ok(),
             _ => None,
         }
     }
@@ -86,13 +86,13 @@ impl Part for SupplyCode {
     }
 
     fn lay(&self, out: &mut [u8]) -> bool {
-        let supply = self.byte();
+        let supply = u8::from(*self);
         fill(out, &[supply])
     }
 
     fn read(bytes: &[u8]) -> Option<SupplyCode> {
         match bytes {
-            [only] => SupplyCode::from_byte(*only),
+            [only] => SupplyCode::try_from(*only).ok(),
             _ => None,
         }
     }
@@ -131,20 +131,21 @@ impl Part for Slot {
     }
 
     fn lay(&self, out: &mut [u8]) -> bool {
-        let Row { flags, more, last } = self.record.row();
-        fill(out, &[flags, more, last, self.state.byte()])
+        let Row { flags, more, last } = Row::from(self.record);
+        fill(out, &[flags, more, last, u8::from(self.state)])
     }
 
     fn read(bytes: &[u8]) -> Option<Slot> {
         let [flags, more, last, fourth] = bytes else {
             return None;
         };
-        let record = SlotRecord::from_row(Row {
+        let record = SlotRecord::try_from(Row {
             flags: *flags,
             more: *more,
             last: *last,
-        })?;
-        let state = PhysicalState::from_byte(*fourth)?;
+        })
+        .ok()?;
+        let state = PhysicalState::try_from(*fourth).ok()?;
         Some(Slot { record, state })
     }
 }

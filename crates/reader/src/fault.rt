@@ -22,7 +22,7 @@ pub enum Run {
     Temperatures,
     Slots,
     Counts,
-    // A run that the reader does not know: it has no parts.
+    // A run that the reader does not know: it has no parts. It is a run as the others are, and no `Option` round them, since the configuration page is tested before the run.
     Unknown,
 }
 

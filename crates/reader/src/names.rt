@@ -4,12 +4,12 @@ ghost use Rattle.reader.specs.Numbers.{fault_number, run_numbered};
 
 use crate::fault::{Fault, Run};
 
-impl Fault {
-    // The number by which the fault is known.
-    pub fn number(self) -> u32
-        ensures { result ≡ fault_number self }
-    {
-        match self {
+// The number by which the fault is known.
+impl From<Fault> for u32 {
+    ghost from_gives = { λ fault number. number ≡ fault_number fault };
+
+    fn from(fault: Fault) -> u32 {
+        match fault {
             Fault::Configuration => 7,
             Fault::Short => 8,
             Fault::Number => 9,
@@ -18,11 +18,11 @@ impl Fault {
     }
 }
 
-impl Run {
-    // The run that a number names.
-    pub fn numbered(number: u32) -> Run
-        ensures { result ≡ run_numbered number }
-    {
+// The run that a number names; a number that names none is of a run that the reader does not know.
+impl From<u32> for Run {
+    ghost from_gives = { λ number run. run ≡ run_numbered number };
+
+    fn from(number: u32) -> Run {
         match number {
             0 => Run::Fans,
             1 => Run::Supplies,

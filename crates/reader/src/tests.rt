@@ -22,7 +22,7 @@ fn config(counts: [u8; 7]) -> [u8; 64] {
 fn outcome(config: &[u8], page: &[u8], run: Run, number: usize) -> (u32, usize, u8) {
     match read_part(config, page, run, number) {
         Ok(found) => (0, found.place, found.bytes.last().copied().unwrap_or(0)),
-        Err(fault) => (fault.number(), 0, 0),
+        Err(fault) => (u32::from(fault), 0, 0),
     }
 }
 
@@ -37,11 +37,11 @@ fn first_last_and_past(rt: HostRuntime) {
         (3, 0, 10, 0x52),
     ] {
         assert_eq!(rt;
-            outcome(&config, &STATUS, Run::numbered(run), last),
+            outcome(&config, &STATUS, Run::from(run), last),
             (0, place, byte)
         );
         assert_eq!(rt;
-            outcome(&config, &STATUS, Run::numbered(run), last.saturating_add(1)),
+            outcome(&config, &STATUS, Run::from(run), last.saturating_add(1)),
             (9, 0, 0)
         );
     }
@@ -64,7 +64,7 @@ fn pages_cut_at_every_length(rt: HostRuntime) {
         for len in 0..15 {
             let page = STATUS.get(0..len).unwrap_or(&[]);
             let fault = if page.len() < end { 8 } else { 0 };
-            assert_eq!(rt; outcome(&config, page, Run::numbered(run), 0).0, fault);
+            assert_eq!(rt; outcome(&config, page, Run::from(run), 0).0, fault);
         }
     }
     for len in 0..18 {
@@ -99,7 +99,7 @@ fn configurations_at_their_limits(rt: HostRuntime) {
     }
     let whole = config(COUNTS);
     assert_eq!(rt; outcome(&whole[0..63], &STATUS, Run::Fans, 0).0, 7);
-    assert_eq!(rt; outcome(&whole, &STATUS, Run::numbered(6), 0).0, 9);
+    assert_eq!(rt; outcome(&whole, &STATUS, Run::from(6), 0).0, 9);
 }
 
 // Faults come in their order, a run of no parts has an end too, and bytes that are no part are refused.

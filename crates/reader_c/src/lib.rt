@@ -49,7 +49,7 @@ pub extern "C" fn safte_part(
     ensures place { place.new ≡ part_number place_of (length out.old) (read_part config.now page.now (run_numbered run) number) place.old }
     ensures width { width.new ≡ part_number width_of (length out.old) (read_part config.now page.now (run_numbered run) number) width.old }
 {
-    match read_part(config, page, Run::numbered(run), number as usize) {
+    match read_part(config, page, Run::from(run), number as usize) {
         Ok(found) => {
             let size = found.bytes.len();
             if out.len() < size {
@@ -60,6 +60,6 @@ pub extern "C" fn safte_part(
             *width = size as u32;
             0
         }
-        Err(fault) => fault.number(),
+        Err(fault) => u32::from(fault),
     }
 }

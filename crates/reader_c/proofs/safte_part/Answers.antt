@@ -10,11 +10,11 @@ returns-then-out-size c =
 
 pub overflow_cast-place : goal.overflow_cast-place
 overflow_cast-place c =
-    let s = small c.args.config.now c.args.page.now c.numbered.result c.args.number _ c.in-Ok.ensures in search rules
+    let s = small c.args.config.now c.args.page.now c.from.result c.args.number _ c.in-Ok.ensures in search rules
 
 pub overflow_cast-width : goal.overflow_cast-width
 overflow_cast-width c =
-    let s = small c.args.config.now c.args.page.now c.numbered.result c.args.number _ c.in-Ok.ensures in search rules
+    let s = small c.args.config.now c.args.page.now c.from.result c.args.number _ c.in-Ok.ensures in search rules
 
 pub returns-else-out-size : goal.returns-else-out-size
 returns-else-out-size c =
