@@ -16,10 +16,7 @@ fn condition(number: Option<u8>) -> Condition
     ensures { result ≡ condition_at number }
 {
     match number {
-        Some(number) => match Condition::from_number(number) {
-            Some(condition) => condition,
-            None => Condition::Unknown,
-        },
+        Some(number) => Condition::try_from(number).unwrap_or(Condition::Unknown),
         None => Condition::Unknown,
     }
 }
@@ -29,7 +26,7 @@ fn fan_code<B: Backplane>(b: &B, k: usize) -> FanCode
     requires { k < (B.Backplane.value b.now).configuration.counts.fans }
     ensures { result ≡ fan_of ((B.Backplane.value b.now).inputs.fan k) }
 {
-    FanCode::of(condition(b.input(Input::Fan(k))))
+    FanCode::from(condition(b.input(Input::Fan(k))))
 }
 
 // The code of a supply.

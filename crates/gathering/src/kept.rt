@@ -32,12 +32,12 @@ fn blank() -> SlotShown {
         more: 0,
         last: 0,
     };
-    match SlotRecord::from_row(row) {
-        Some(record) => SlotShown {
+    match SlotRecord::try_from(row) {
+        Ok(record) => SlotShown {
             record,
             state: PhysicalState::EmptyReady,
         },
-        None => unreachable(),
+        Err(_) => unreachable(),
     }
 }
 
@@ -45,12 +45,12 @@ fn blank() -> SlotShown {
 fn shown(slot: Slot) -> SlotShown
     ensures { Fine slot.row → slot_laid result ≡ slot_bytes (slot_as slot) }
 {
-    match SlotRecord::from_row(slot.row) {
-        Some(record) => SlotShown {
+    match SlotRecord::try_from(slot.row) {
+        Ok(record) => SlotShown {
             record,
             state: slot.state,
         },
-        None => blank(),
+        Err(_) => blank(),
     }
 }
 

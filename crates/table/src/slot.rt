@@ -89,7 +89,7 @@ impl Slot {
     pub fn lamp(self) -> u8
         ensures { result ≡ slot_lamp (slot_as self) }
     {
-        Lamp::of(self.row, self.identify).number()
+        u8::from(Lamp::of(self.row, self.identify))
     }
 
     // The slot after an accepted frame that shows a drive in it or none.
@@ -140,12 +140,12 @@ impl Slot {
         if !is_flagged(triple) {
             return self;
         }
-        match SlotRecord::from_row(to_store(triple)) {
-            Some(record) => Slot {
-                row: record.row(),
+        match SlotRecord::try_from(to_store(triple)) {
+            Ok(record) => Slot {
+                row: Row::from(record),
                 ..self
             },
-            None => self,
+            Err(_) => self,
         }
     }
 }
