@@ -31,7 +31,7 @@ pub fn answer_part(heap: Global, line: u64, question: &PartQuestion) -> Result<S
             format!(in heap; "{line} part: place {place}, bytes {bytes}")
         }
         Err(fault) => {
-            let number = fault.number();
+            let number = u32::from(fault);
             format!(in heap; "{line} part: refused {number}")
         }
     }

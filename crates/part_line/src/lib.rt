@@ -42,7 +42,7 @@ fn run_named(word: &[u8]) -> Option<Run>
         Some(Run::Counts)
     } else {
         match read_number(word, 255) {
-            Some(n) => Some(Run::numbered(n)),
+            Some(n) => Some(Run::from(n)),
             None => None,
         }
     }
