@@ -1,6 +1,5 @@
 -- What a computed test passes at each number below n holds of each number below n.
-use Rattle.std.proofs.Common.{◌≡◌, ℕ, zero, suc, ◌<◌, Bool, true, false, ◌&&◌, eqb, Decides, sym, refl, subst}
-use Rattle.std.proofs.lemmas.Bool.{eqb-true}
+use Rattle.std.proofs.Common.{◌≡◌, ℕ, zero, suc, ◌<◌, Bool, true, ◌&&◌, refl}
 use Rattle.std.proofs.lemmas.Bool.Decides.{Decides-below_and}
 
 -- the test f passes at each number below n

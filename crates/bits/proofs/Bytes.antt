@@ -1,53 +1,31 @@
 -- What the masks make of a byte, by tests that antt computes at every byte, and then of an image.
-use Rattle.std.proofs.Common.{◌≡◌, ℕ, zero, suc, ◌-◌, ◌*◌, ◌/◌, ◌%◌, ◌^◌, ◌<◌, Bool, true, false, cond, eqb, ◌≢◌, List, length, get_or, set, sym, refl, ap, ◌∙◌, ⊎_elim, arith}
+use Rattle.std.proofs.Common.{◌≡◌, ℕ, zero, suc, ◌-◌, ◌*◌, ◌/◌, ◌%◌, ◌^◌, ◌<◌, Bool, true, cond, eqb, ◌≢◌, List, length, get_or, set, sym, refl, ap, ◌∙◌, ⊎_elim, arith}
 use lib.Bits.{bit_and, bit_or}
 use Rattle.std.proofs.lemmas.List.{get_or-set_same, get_or-set_other, length-set}
 use Rattle.std.proofs.lemmas.Bool.{eqb-true, cases_eq, eq-eqb, ne_eqb, cond-true, cond-false}
 use Rattle.std.proofs.lemmas.Nat.{mod_below, div-add-mod'}
-use Rattle.bits.specs.Image.{half_at, bit_at, half, bit, Made, Wrote}
-use Rattle.bits.proofs.Below.{all2_at, all3_at, all4_at}
+use Rattle.bits.specs.Image.{part_at, half_at, bit_at, half, bit, Made, Wrote}
+use Rattle.bits.proofs.Below.{all, all2_at, all4_at}
 
--- the byte x with part j made v, as the code makes it
-abbrev pub halved : ℕ → ℕ → ℕ → ℕ
-halved x j v = bit_or (bit_and x (255 - (15 * 2 ^ (4 * j)) % 256)) ((v * 2 ^ (4 * j)) % 256)
+-- the byte x with part j made v, as the code makes it; `below` says how many bits stand below a part
+abbrev pub placed : ℕ → (ℕ → ℕ) → ℕ → ℕ → ℕ → ℕ
+placed size below x j v = bit_or (bit_and x (255 - (size - 1) * 2 ^ below j % 256)) (v * 2 ^ below j % 256)
 
-abbrev pub bit_on : ℕ → ℕ → ℕ
-bit_on x j = bit_or x ((1 * 2 ^ j) % 256)
+abbrev pub makes : ℕ → (ℕ → ℕ) → ℕ → ℕ → ℕ → ℕ → Bool
+makes size below x j v i = eqb (part_at size (placed size below x j v) i) (cond (eqb i j) v (part_at size x i))
 
-abbrev pub bit_off : ℕ → ℕ → ℕ
-bit_off x j = bit_and x (255 - (1 * 2 ^ j) % 256)
-
-pub half_made : (x j v : ℕ) → x < 256 → j < 2 → v < 16 → Made half_at 2 x (halved x j v) j v
-half_made x j v p q r i s =
-    eqb-true (half_at (halved x j v) i) (cond (eqb i j) v (half_at x i))
-    (all4_at 256 2 16 2 (λ x j v i. eqb (half_at (halved x j v) i) (cond (eqb i j) v (half_at x i))) refl x j v i p q r s)
-
--- two tests have one answer
-abbrev same : Bool → Bool → Bool
-same true b = b
-same false true = false
-same false false = true
-
-same_true : (a b : Bool) → same a b ≡ true → a ≡ b
-same_true true b e = sym e
-same_true false true e = e
-same_true false false e = refl
-
-pub on_made : (x j : ℕ) → x < 256 → j < 8 → Made bit_at 8 x (bit_on x j) j true
-on_made x j p q i s =
-    same_true (bit_at (bit_on x j) i) (cond (eqb i j) true (bit_at x i))
-    (all3_at 256 8 8 (λ x j i. same (bit_at (bit_on x j) i) (cond (eqb i j) true (bit_at x i))) refl x j i p q s)
-
-pub off_made : (x j : ℕ) → x < 256 → j < 8 → Made bit_at 8 x (bit_off x j) j false
-off_made x j p q i s =
-    same_true (bit_at (bit_off x j) i) (cond (eqb i j) false (bit_at x i))
-    (all3_at 256 8 8 (λ x j i. same (bit_at (bit_off x j) i) (cond (eqb i j) false (bit_at x i))) refl x j i p q s)
+pub part_made : (size n : ℕ) (below : ℕ → ℕ) → all 256 (λ x. all n (λ j. all size (λ v. all n (makes size below x j v)))) ≡ true
+    → (x j v : ℕ) → x < 256 → j < n → v < size → Made (part_at size) n x (placed size below x j v) j v
+part_made size n below t x j v p q r i s =
+    eqb-true (part_at size (placed size below x j v) i) (cond (eqb i j) v (part_at size x i)) (all4_at 256 n size n (makes size below) t x j v i p q r s)
 
 -- what `>>` and `&` read of a byte
-pub half_read : (x j : ℕ) → x < 256 → j < 2 → bit_and (x / 2 ^ (4 * j)) 15 ≡ half_at x j
-half_read x j p q =
-    eqb-true (bit_and (x / 2 ^ (4 * j)) 15) (half_at x j)
-    (all2_at 256 2 (λ x j. eqb (bit_and (x / 2 ^ (4 * j)) 15) (half_at x j)) refl x j p q)
+abbrev pub reads : ℕ → (ℕ → ℕ) → ℕ → ℕ → Bool
+reads size below x j = eqb (bit_and (x / 2 ^ below j) (size - 1)) (part_at size x j)
+
+pub part_read : (size n : ℕ) (below : ℕ → ℕ) → all 256 (λ x. all n (reads size below x)) ≡ true
+    → (x j : ℕ) → x < 256 → j < n → bit_and (x / 2 ^ below j) (size - 1) ≡ part_at size x j
+part_read size n below t x j p q = eqb-true (bit_and (x / 2 ^ below j) (size - 1)) (part_at size x j) (all2_at 256 n (reads size below) t x j p q)
 
 -- one law for every width: the byte with a part made v, put in its place, makes that part of the image v and no other
 pub wrote_from : {A : Type 0} (at : ℕ → ℕ → A) (n : ℕ) → 0 < n → (old : List ℕ) (k y : ℕ) (v : A) → k / n < length old

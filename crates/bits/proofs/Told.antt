@@ -1,7 +1,7 @@
 -- What a cell holds is told by its bits.
-use Rattle.std.proofs.Common.{◌≡◌, ℕ, zero, suc, ◌+◌, ◌*◌, ◌/◌, ◌%◌, ◌<◌, Bool, true, false, cond, eqb, List, sym, refl, ap, ◌∙◌, arith}
-use borrow.Author.Tests.{clash}
+use Rattle.std.proofs.Common.{◌≡◌, ℕ, ◌+◌, ◌*◌, ◌/◌, ◌%◌, ◌<◌, Bool, true, false, cond, eqb, List, sym, refl, ap, ◌∙◌, arith}
 use Rattle.std.proofs.lemmas.Bool.{eq-eqb, eqb-true}
+use Rattle.std.proofs.lemmas.Bool.Decides.{nat_tests}
 use Rattle.bits.specs.Image.{bit_at, half, bit, inner, held, one, within}
 use Rattle.bits.specs.declared.Cell.{Cell}
 use Rattle.bits.specs.declared.Cell.TheVariants.{Half, Bit}
@@ -20,13 +20,7 @@ bit_of_held image (Half h) k e =
 bit_of_held image (Bit b) k e = ap (bit image) (eqb-true k b e) ∙ one_bit (bit image b)
 
 same_digit : (p q : ℕ) → p < 2 → q < 2 → eqb p 1 ≡ eqb q 1 → p ≡ q
-same_digit zero zero a b e = refl
-same_digit zero (suc zero) a b e = absurd (clash e)
-same_digit (suc zero) zero a b e = absurd (clash (sym e))
-same_digit (suc zero) (suc zero) a b e = refl
-same_digit zero (suc (suc q)) a b e = absurd (omega arith)
-same_digit (suc zero) (suc (suc q)) a b e = absurd (omega arith)
-same_digit (suc (suc p)) q a b e = absurd (omega arith)
+same_digit p q a b e = grind (arith, nat_tests)
 
 -- four bits make a half
 same_half : (y z : ℕ) → y < 16 → z < 16 → bit_at y 0 ≡ bit_at z 0 → bit_at y 1 ≡ bit_at z 1 → bit_at y 2 ≡ bit_at z 2 → bit_at y 3 ≡ bit_at z 3 → y ≡ z

@@ -1,20 +1,27 @@
 -- Halves (two a byte) and bits (eight a byte) of a byte and of an image of bytes, the lowest first, and what a write of one leaves.
-use Rattle.std.specs.Prelude.{◌≡◌, ℕ, ◌/◌, ◌%◌, ◌^◌, ◌<◌, Bool, false, cond, ◌≢◌, List, length, ◌==◌, slice_index}
+use Rattle.std.specs.Prelude.{◌≡◌, ℕ, ◌*◌, ◌/◌, ◌%◌, ◌^◌, ◌<◌, Bool, false, cond, ◌≢◌, List, length, ◌==◌, slice_index}
 use Rattle.bits.specs.declared.Cell.{Cell}
 use Rattle.bits.specs.declared.Cell.TheVariants.{Half, Bit}
 
--- part j of a byte
+-- part j of a byte whose parts hold numbers below `size`, a power of 2
+abbrev pub part_at : ℕ → ℕ → ℕ → ℕ
+part_at size x j = x / size ^ j % size
+
 abbrev pub half_at : ℕ → ℕ → ℕ
-half_at x j = x / 16 ^ j % 16
+half_at x j = part_at 16 x j
 
 abbrev pub bit_at : ℕ → ℕ → Bool
-bit_at x j = x / 2 ^ j % 2 == 1
+bit_at x j = part_at 2 x j == 1
+
+-- part k of an image of bytes that have n parts each
+abbrev pub part : ℕ → ℕ → List ℕ → ℕ → ℕ
+part size n image k = part_at size (slice_index image (k / n)) (k % n)
 
 abbrev pub half : List ℕ → ℕ → ℕ
-half image k = half_at (slice_index image (k / 2)) (k % 2)
+half image k = part 16 2 image k
 
 abbrev pub bit : List ℕ → ℕ → Bool
-bit image k = bit_at (slice_index image (k / 8)) (k % 8)
+bit image k = part 2 8 image k == 1
 
 -- the byte y is x with its part j, of n, made v and no other
 abbrev pub Made : {A : Type 0} → (ℕ → ℕ → A) → ℕ → ℕ → ℕ → ℕ → A → Type 0
@@ -40,6 +47,11 @@ held image (Bit k) = one (bit image k)
 abbrev pub byte_of : Cell → ℕ
 byte_of (Half k) = k / 2
 byte_of (Bit k) = k / 8
+
+-- how many bits of that byte stand below the cell
+abbrev pub shift_of : Cell → ℕ
+shift_of (Half k) = 4 * (k % 2)
+shift_of (Bit k) = k % 8
 
 -- how many numbers a cell can hold
 abbrev pub limit : Cell → ℕ

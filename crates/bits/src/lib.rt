@@ -1,8 +1,8 @@
 // Halves and bits of an image of bytes, the lowest first: one is read, or one is written and all else stays.
 #![tactic(auto)]
 
-ghost use Rattle.std.specs.Prelude.{◌≡◌, ℕ, ◌/◌, ◌%◌, ◌<◌, ◌&&◌, length, MatchBool, nat_lt, slice_index};
-ghost use Rattle.bits.specs.Image.{Made, Put, bit_at, byte_of, half_at, held, limit};
+ghost use Rattle.std.specs.Prelude.{◌≡◌, ℕ, ◌-◌, ◌<◌, ◌&&◌, length, MatchResult, is_ok, nat_lt};
+ghost use Rattle.bits.specs.Image.{Put, byte_of, held, limit, shift_of};
 
 // A place in an image: half k, two a byte, or bit k, eight a byte.
 #[derive(Clone, Copy)]
@@ -11,43 +11,9 @@ pub enum Cell {
     Bit(usize),
 }
 
-// A byte of an image; past its end it is 0.
-fn byte_at(image: &[u8], at: usize) -> u8
-    ensures { result ≡ slice_index image.now at }
-{
-    if at < image.len() { image[at] } else { 0 }
-}
-
-// Half `k % 2` of a byte.
-fn half_of(byte: u8, k: usize) -> u8
-    ensures { result ≡ half_at byte (k % 2) }
-{
-    byte >> (4 * (k % 2)) & 15
-}
-
-// Bit `k % 8` of a byte.
-fn bit_of(byte: u8, k: usize) -> bool
-    ensures { result ≡ bit_at byte (k % 8) }
-{
-    byte >> (k % 8) & 1 == 1
-}
-
-// The byte with its half `k % 2` made `v`.
-fn with_half(byte: u8, k: usize, v: u8) -> u8
-    requires { v < 16 }
-    ensures { Made half_at 2 byte result (k % 2) v }
-{
-    let shift = 4 * (k % 2);
-    byte & !(15u8 << shift) | v << shift
-}
-
-// The byte with its bit `k % 8` on or off.
-fn with_bit(byte: u8, k: usize, on: bool) -> u8
-    ensures { Made bit_at 8 byte result (k % 8) on }
-{
-    let mask = 1u8 << (k % 8);
-    if on { byte | mask } else { byte & !mask }
-}
+// The cell stands past the end of the image, or cannot hold the number.
+#[derive(Clone, Copy)]
+pub struct Unheld;
 
 impl Cell {
     // The byte of an image that holds the cell.
@@ -60,31 +26,46 @@ impl Cell {
         }
     }
 
+    // How many bits of its byte stand below the cell.
+    fn shift(self) -> usize
+        ensures { result ≡ shift_of self }
+    {
+        match self {
+            Cell::Half(k) => 4 * (k % 2),
+            Cell::Bit(k) => k % 8,
+        }
+    }
+
+    // The largest number that the cell can hold: all its bits are on.
+    fn most(self) -> u8
+        ensures { result ≡ limit self - 1 }
+    {
+        match self {
+            Cell::Half(_) => 15,
+            Cell::Bit(_) => 1,
+        }
+    }
+
     // What the cell holds; past the image it is 0.
     pub fn get(self, image: &[u8]) -> u8
         ensures { result ≡ held image.now self }
     {
-        let byte = byte_at(image, self.byte());
-        match self {
-            Cell::Half(k) => half_of(byte, k),
-            Cell::Bit(k) => bit_of(byte, k) as u8,
-        }
+        let byte = image.get(self.byte()).copied().unwrap_or(0);
+        byte >> self.shift() & self.most()
     }
 
     // Makes the cell hold `v`. A cell past the image, or a number that it cannot hold, is refused, and the image stays.
-    pub fn put(self, image: &mut [u8], v: u8) -> bool
-        ensures fits { result ≡ (nat_lt (byte_of self) (length image.old) && nat_lt v (limit self)) }
-        ensures image { MatchBool result (Put image.old image.new self v) (image.new ≡ image.old) }
+    pub fn put(self, image: &mut [u8], v: u8) -> Result<(), Unheld>
+        ensures fits { is_ok result ≡ (nat_lt (byte_of self) (length image.old) && nat_lt v (limit self)) }
+        ensures image { MatchResult result (λ _. Put image.old image.new self v) (λ _. image.new ≡ image.old) }
     {
         let at = self.byte();
-        if at >= image.len() {
-            return false;
+        let most = self.most();
+        if at >= image.len() || v > most {
+            return Err(Unheld);
         }
-        match self {
-            Cell::Half(k) if v < 16 => image[at] = with_half(image[at], k, v),
-            Cell::Bit(k) if v < 2 => image[at] = with_bit(image[at], k, v == 1),
-            _ => return false,
-        }
-        true
+        let shift = self.shift();
+        image[at] = image[at] & !(most << shift) | v << shift;
+        Ok(())
     }
 }
