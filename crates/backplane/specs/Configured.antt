@@ -1,13 +1,14 @@
 -- The configuration that a backplane is made with.
-use Rattle.std.specs.Prelude.{ℕ, Bool, true, false, cond, ◌&&◌, List, [], ◌∷◌, ◌++◌, length, drop, replicate, ◌==◌, nat_le}
+use Rattle.std.specs.Prelude.{ℕ, Bool, false, cond, ◌&&◌, List, ◌++◌, length, drop, replicate, ◌==◌, nat_le}
+use Rattle.std.specs.List.{list_all}
 use Rattle.enclosure.specs.Ranges.{in_range}
 use Rattle.enclosure.specs.declared.counts.PartCounts.{PartCounts}
 use Rattle.backplane.specs.declared.configuration.Configuration.{Configuration}
+use Rattle.backplane.specs.declared.configuration.Fittings.{Fittings}
 
 -- each number of a list is at most `most`
 abbrev pub at_most_each : ℕ → List ℕ → Bool
-at_most_each most [] = true
-at_most_each most (b ∷ bs) = nat_le b most && at_most_each most bs
+at_most_each most = list_all (λ b. nat_le b most)
 
 -- every count zero, and no lock or alarm
 abbrev pub none : Configuration
@@ -23,6 +24,10 @@ configured counts lock alarm ids =
     cond (well_formed counts ids)
     (record { counts = counts; lock = lock; alarm = alarm; ids = ids ++ drop (length ids) (replicate 14 0) })
     none
+
+-- the configuration that is asked for
+abbrev pub asked : Fittings → Configuration
+asked f = configured f.counts f.lock f.alarm f.ids.now
 
 -- a configuration that is kept if its counts are in range and there is room for it; else none at all
 abbrev pub kept : Configuration → Bool → Configuration

@@ -1,6 +1,6 @@
 -- A configuration that is kept has few parts.
-use Rattle.std.specs.Prelude.{◌≡◌, ℕ, ◌≤◌, Bool, true, false, cond, ◌&&◌, nat_le, refl}
-use Rattle.std.proofs.Common.{sym, arith, lit≤}
+use Rattle.std.specs.Prelude.{Bool, ◌&&◌, nat_le, refl}
+use Rattle.std.proofs.Common.{arith, lit≤}
 use Rattle.std.proofs.lemmas.Bool.{cond_both, leb-true, and_parts}
 use Rattle.enclosure.specs.Ranges.{in_range}
 use Rattle.backplane.specs.Configured.{kept, none}

@@ -1,5 +1,5 @@
 -- Two values are one where their parts are.
-use Rattle.std.specs.Prelude.{◌≡◌, ℕ, Bool}
+use Rattle.std.specs.Prelude.{◌≡◌, ℕ}
 use Rattle.backplane.specs.Meaning.{Inputs, Value}
 use Rattle.backplane.specs.declared.places.Output.{Output}
 

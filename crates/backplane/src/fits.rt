@@ -1,10 +1,10 @@
 // Which configurations there are, and what they are fitted with.
 ghost use Rattle.std.specs.Prelude.{◌≡◌};
 ghost use Rattle.enclosure.specs.Conditions.{condition_number};
-ghost use Rattle.backplane.specs.Configured.{at_most_each, configured, kept as keeping};
+ghost use Rattle.backplane.specs.Configured.{asked, at_most_each, kept as keeping};
 ghost use Rattle.backplane.specs.Meaning.{Bounded, condition_of, fits as fitting, senses as sensing};
 
-use crate::configuration::Configuration;
+use crate::configuration::{Configuration, Fittings};
 use crate::places::{Input, Output};
 use enclosure::counts::PartCounts;
 
@@ -23,14 +23,20 @@ impl Configuration {
         ids: [0; 14],
     };
 
-    // The configuration with these parts. Where a count is out of range, the IDs are not one for each slot or an ID is above 15, there is nothing at all.
-    pub fn of(counts: PartCounts, lock: bool, alarm: bool, ids: &[u8]) -> Configuration
-        ensures { result ≡ configured counts lock alarm ids.now }
+    // The configuration with these fittings. Where a count is out of range, the IDs are not one for each slot or an ID is above 15, there is nothing at all.
+    pub fn of(fittings: Fittings) -> Configuration
+        ensures { result ≡ asked fittings.entry }
     {
+        let Fittings {
+            counts,
+            lock,
+            alarm,
+            ids,
+        } = fittings;
         let n = ids.len();
         if counts.in_range() && (n == counts.slots as usize && all_at_most(ids, 15)) {
             let mut table = [0; 14];
-            table[0..n].copy_from_slice(ids);
+            table[..n].copy_from_slice(ids);
             Configuration {
                 counts,
                 lock,
@@ -88,17 +94,12 @@ impl Configuration {
 pub fn all_at_most(bytes: &[u8], most: u8) -> bool
     ensures { result ≡ at_most_each most bytes.now }
 {
-    for byte in bytes {
-        if *byte > most {
-            return false;
-        }
-    }
-    true
+    bytes.iter().all(|byte| *byte <= most)
 }
 
 // The number of the condition with a number: past the last it is that of the last.
 pub fn condition_number(number: u8) -> u8
     ensures { result ≡ condition_number (condition_of number) }
 {
-    if number < 4 { number } else { 4 }
+    number.min(4)
 }
