@@ -1,10 +1,10 @@
 -- What a plain backplane means as it is made.
-use Rattle.std.proofs.Common.{◌≡◌, ℕ, ◌+◌, Bool, true, false, cond, eqb, ltb, List, get_or, replicate, refl, ap, ◌∙◌}
-use Rattle.enclosure.specs.declared.counts.PartCounts.{PartCounts}
-use Rattle.backplane.specs.Configured.{configured, kept}
+use Rattle.std.proofs.Common.{◌≡◌, ℕ, ◌+◌, Bool, true, false, cond, eqb, ltb, get_or, replicate, refl, ap, ◌∙◌}
+use Rattle.backplane.specs.Configured.{asked, kept}
 use Rattle.backplane.specs.Meaning.{condition_of, no_inputs, one}
 use Rattle.backplane.specs.Same.{same_inputs, same_value}
 use Rattle.backplane.specs.declared.configuration.Configuration.{Configuration}
+use Rattle.backplane.specs.declared.configuration.Fittings.{Fittings}
 use Rattle.backplane.specs.declared.places.Output.{Output}
 use Rattle.backplane.specs.declared.places.Output.TheVariants.{Lamp, Connection, Speed, Supply, Alarm, Lock}
 use Rattle.backplane.proofs.Kept.{filled, kept_configured, unset}
@@ -34,9 +34,7 @@ blank_outputs t b (Supply k) = ap (λ l. one (get_or l k false)) b.supplies ∙ 
 blank_outputs t b Alarm = ap one b.alarm
 blank_outputs t b Lock = ap one b.lock
 
-pub made_value : (c : Configuration) (t : Tables) (counts : PartCounts) (lock alarm : Bool) (ids : List ℕ) → c ≡ configured counts lock alarm ids → Blank t
-    → value_of c t ≡ made_with (configured counts lock alarm ids)
-made_value c t counts lock alarm ids is b =
-    let d = configured counts lock alarm ids in
-    let k : kept c true ≡ d = ap (λ x. kept x true) is ∙ kept_configured counts lock alarm ids true in
-    same_value (value_of c t) (made_with d) k (ap (inputs_in (kept c true)) b.frame ∙ empty_inputs (kept c true)) (blank_outputs t b) refl
+pub made_value : (c : Configuration) (t : Tables) (f : Fittings) → c ≡ asked f → Blank t → value_of c t ≡ made_with (asked f)
+made_value c t f is b =
+    let k : kept c true ≡ asked f = ap (λ x. kept x true) is ∙ kept_configured f.counts f.lock f.alarm f.ids.now true in
+    same_value (value_of c t) (made_with (asked f)) k (ap (inputs_in (kept c true)) b.frame ∙ empty_inputs (kept c true)) (blank_outputs t b) refl

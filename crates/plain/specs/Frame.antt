@@ -4,6 +4,7 @@ use Rattle.enclosure.specs.declared.conditions.Condition.TheVariants.{Works}
 use Rattle.backplane.specs.Configured.{at_most_each}
 use Rattle.backplane.specs.Meaning.{Inputs, condition_of}
 use Rattle.backplane.specs.declared.configuration.Configuration.{Configuration}
+use Rattle.plain.specs.declared.frame.Places.{Places}
 
 -- where the conditions of fans, those of supplies, the temperatures and the over-temperature flags begin, and the end: presence comes first
 abbrev pub fans_at : Configuration → ℕ
@@ -20,6 +21,9 @@ flags_at c = temperatures_at c + c.counts.sensors
 
 abbrev pub frame_length : Configuration → ℕ
 frame_length c = flags_at c + (c.counts.sensors + c.counts.thermostats)
+
+abbrev pub places_of : Configuration → Places
+places_of c = record { fans = fans_at c; supplies = supplies_at c; temperatures = temperatures_at c; flags = flags_at c; end = frame_length c }
 
 -- a frame of that length, whose presence bytes are 0 or 1, conditions 0 to 4 and over-temperature flags 0 or 1
 abbrev pub well_formed : Configuration → List ℕ → Bool

@@ -1,24 +1,50 @@
 // The frame of a plain backplane.
 ghost use Rattle.std.specs.Prelude.{◌≡◌, ℕ, ◌≤◌, true, ◌++◌, length, drop, replicate};
 ghost use Rattle.backplane.specs.Meaning.{Bounded, «input_number», senses};
-ghost use Rattle.plain.specs.Frame.{inputs_in, well_formed as is_frame};
+ghost use Rattle.plain.specs.Frame.{inputs_in, places_of, well_formed as is_frame};
 
 use backplane::configuration::Configuration;
 use backplane::fits::{all_at_most, condition_number};
 use backplane::places::Input;
 
+// Where the parts of a frame begin, and where it ends: presence comes first, from 0 on.
+#[derive(Clone, Copy)]
+struct Places {
+    fans: usize,
+    supplies: usize,
+    temperatures: usize,
+    flags: usize,
+    end: usize,
+}
+
+impl Places {
+    fn of(c: Configuration) -> Places
+        ensures { result ≡ places_of c }
+    {
+        let fans = c.counts.slots as usize;
+        let supplies = fans + c.counts.fans as usize;
+        let temperatures = supplies + c.counts.supplies as usize;
+        let flags = temperatures + c.counts.sensors as usize;
+        let end = flags + (c.counts.sensors as usize + c.counts.thermostats as usize);
+        Places {
+            fans,
+            supplies,
+            temperatures,
+            flags,
+            end,
+        }
+    }
+}
+
 // Whether a frame reads as something.
 pub fn well_formed(c: Configuration, frame: &[u8]) -> bool
     ensures { result ≡ is_frame c frame.now }
 {
-    let fans_at = c.counts.slots as usize;
-    let temperatures_at = fans_at + c.counts.fans as usize + c.counts.supplies as usize;
-    let flags_at = temperatures_at + c.counts.sensors as usize;
-    let flags = c.counts.sensors as usize + c.counts.thermostats as usize;
-    frame.len() == flags_at + flags
-        && (all_at_most(&frame[0..fans_at], 1)
-            && (all_at_most(&frame[fans_at..temperatures_at], 4)
-                && all_at_most(&frame[flags_at..], 1)))
+    let from = Places::of(c);
+    frame.len() == from.end
+        && (all_at_most(&frame[..from.fans], 1)
+            && (all_at_most(&frame[from.fans..from.temperatures], 4)
+                && all_at_most(&frame[from.flags..], 1)))
 }
 
 // The number at an input that is fitted.
@@ -26,16 +52,13 @@ pub(crate) fn sensed(c: Configuration, frame: &[u8], at: Input) -> u8
     requires { (length frame.now ≡ 83) × ((Bounded c) × (senses c at ≡ true)) }
     ensures { result ≡ input_number (inputs_in c frame.now) at }
 {
-    let fans_at = c.counts.slots as usize;
-    let supplies_at = fans_at + c.counts.fans as usize;
-    let temperatures_at = supplies_at + c.counts.supplies as usize;
-    let flags_at = temperatures_at + c.counts.sensors as usize;
+    let from = Places::of(c);
     match at {
         Input::Presence(k) => (frame[k] == 1) as u8,
-        Input::Fan(k) => condition_number(frame[fans_at + k]),
-        Input::Supply(k) => condition_number(frame[supplies_at + k]),
-        Input::Temperature(k) => frame[temperatures_at + k],
-        Input::OverTemperature(k) => (frame[flags_at + k] == 1) as u8,
+        Input::Fan(k) => condition_number(frame[from.fans + k]),
+        Input::Supply(k) => condition_number(frame[from.supplies + k]),
+        Input::Temperature(k) => frame[from.temperatures + k],
+        Input::OverTemperature(k) => (frame[from.flags + k] == 1) as u8,
     }
 }
 
@@ -45,6 +68,6 @@ pub(crate) fn padded(frame: &[u8]) -> [u8; 83]
     ensures { result ≡ frame.now ++ drop (length frame.now) (replicate 83 0) }
 {
     let mut table = [0; 83];
-    table[0..frame.len()].copy_from_slice(frame);
+    table[..frame.len()].copy_from_slice(frame);
     table
 }

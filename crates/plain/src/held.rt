@@ -1,7 +1,8 @@
 // The plain backplane.
 ghost use Rattle.std.specs.Prelude.{◌≡◌, ℕ, ◌<◌, Bool, true, if◌then◌else◌};
+ghost use Rattle.backplane.specs.Configured.{«kept»};
 ghost use Rattle.backplane.specs.Few.{few};
-ghost use Rattle.backplane.specs.Meaning.{index, numbers, «same_output»};
+ghost use Rattle.backplane.specs.Meaning.{Bounded, index, numbers, «same_output»};
 ghost use Rattle.backplane.specs.declared.places.Output.{Output as Out};
 ghost use Rattle.plain.specs.Frame.{reading as plain_reading};
 ghost use Rattle.plain.specs.Held.{Blank, «outputs_of», table_size, value_of};
@@ -74,6 +75,16 @@ pub struct Plain {
     pub(crate) tables: Tables,
 }
 
+impl Plain {
+    // What it is fitted with.
+    fn parts(&self) -> Configuration
+        ensures is { result ≡ kept self.now.configuration true }
+        ensures small { Bounded result }
+    {
+        self.configuration.kept(true)
+    }
+}
+
 impl Backplane for Plain {
     ghost value = { λ s. value_of s.configuration s.tables };
 
@@ -82,11 +93,11 @@ impl Backplane for Plain {
     ghost bounded = { λ s. few s.configuration true };
 
     fn configuration(&self) -> Configuration {
-        self.configuration.kept(true)
+        self.parts()
     }
 
     fn input(&self, at: Input) -> Option<u8> {
-        let c = self.configuration.kept(true);
+        let c = self.parts();
         if c.senses(at) {
             Some(sensed(c, &self.tables.frame, at))
         } else {
@@ -95,7 +106,7 @@ impl Backplane for Plain {
     }
 
     fn output(&self, at: Output) -> Option<u8> {
-        if self.configuration.kept(true).fits(at, 0) {
+        if self.parts().fits(at, 0) {
             Some(self.tables.get(at))
         } else {
             None
@@ -103,7 +114,7 @@ impl Backplane for Plain {
     }
 
     fn sample(&mut self, frame: &[u8]) -> Result<(), Unread> {
-        if !well_formed(self.configuration.kept(true), frame) {
+        if !well_formed(self.parts(), frame) {
             return Err(Unread);
         }
         self.tables.keep(padded(frame));
@@ -111,7 +122,7 @@ impl Backplane for Plain {
     }
 
     fn set(&mut self, at: Output, number: u8) -> Result<(), Unfit> {
-        if self.configuration.kept(true).fits(at, number) {
+        if self.parts().fits(at, number) {
             self.tables.put(at, number);
             Ok(())
         } else {
