@@ -9,7 +9,8 @@ use Rattle.backplane.specs.declared.places.Output.{Output}
 use Rattle.backplane.specs.declared.places.Output.TheVariants.{Lamp, Connection, Speed, Supply, Alarm, Lock}
 use Rattle.backplane.proofs.Kept.{filled, kept_configured, unset}
 use Rattle.plain.specs.Frame.{fans_at, flags_at, inputs_in, supplies_at, temperatures_at}
-use Rattle.plain.specs.Held.{Blank, made_with, outputs_of, value_of}
+use Rattle.plain.specs.Held.{Blank, dark, made_with, outputs_of, value_of}
+use Rattle.plain.specs.declared.tables.SlotOutputs.{SlotOutputs}
 use Rattle.plain.specs.declared.tables.Tables.{Tables}
 
 -- a byte that is 0 gives the same as no byte
@@ -27,8 +28,8 @@ empty_inputs c =
     (λ k. none_there (ltb k (n.sensors + n.thermostats)) (λ b. eqb b 1) (flags_at c + k))
 
 blank_outputs : (t : Tables) → Blank t → (o : Output) → outputs_of t o ≡ 0
-blank_outputs t b (Lamp k) = ap (λ l. get_or l k 0) b.lamps ∙ filled 14 0 k
-blank_outputs t b (Connection k) = ap (λ l. one (get_or l k false)) b.connections ∙ ap one (filled 14 false k)
+blank_outputs t b (Lamp k) = ap (λ l. (get_or l k dark).lamp) b.slots ∙ ap (λ (s : SlotOutputs). s.lamp) (filled 14 dark k)
+blank_outputs t b (Connection k) = ap (λ l. one (get_or l k dark).connected) b.slots ∙ ap (λ (s : SlotOutputs). one s.connected) (filled 14 dark k)
 blank_outputs t b (Speed k) = ap (λ l. get_or l k 0) b.speeds ∙ filled 16 0 k
 blank_outputs t b (Supply k) = ap (λ l. one (get_or l k false)) b.supplies ∙ ap one (filled 8 false k)
 blank_outputs t b Alarm = ap one b.alarm

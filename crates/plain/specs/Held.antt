@@ -7,12 +7,17 @@ use Rattle.backplane.specs.declared.configuration.Configuration.{Configuration}
 use Rattle.backplane.specs.declared.places.Output.{Output}
 use Rattle.backplane.specs.declared.places.Output.TheVariants.{Lamp, Connection, Speed, Supply, Alarm, Lock}
 use Rattle.plain.specs.Frame.{inputs_in}
+use Rattle.plain.specs.declared.tables.SlotOutputs.{SlotOutputs}
 use Rattle.plain.specs.declared.tables.Tables.{Tables}
+
+-- a slot at which all is 0
+abbrev pub dark : SlotOutputs
+dark = record { lamp = 0; connected = false }
 
 -- the number at each output
 abbrev pub outputs_of : Tables → Outputs
-outputs_of t (Lamp k) = slice_index t.lamps k
-outputs_of t (Connection k) = one (slice_index_or t.connections k false)
+outputs_of t (Lamp k) = (slice_index_or t.slots k dark).lamp
+outputs_of t (Connection k) = one (slice_index_or t.slots k dark).connected
 outputs_of t (Speed k) = slice_index t.speeds k
 outputs_of t (Supply k) = one (slice_index_or t.supplies k false)
 outputs_of t Alarm = one t.alarm
@@ -43,8 +48,7 @@ made_with c = record { configuration = c; inputs = no_inputs; outputs = λ _. 0;
 -- tables in which all is 0
 pub record Blank (t : Tables) : Type 0 where
   pub frame : t.frame ≡ replicate 83 0
-  pub lamps : t.lamps ≡ replicate 14 0
-  pub connections : t.connections ≡ replicate 14 false
+  pub slots : t.slots ≡ replicate 14 dark
   pub speeds : t.speeds ≡ replicate 16 0
   pub supplies : t.supplies ≡ replicate 8 false
   pub alarm : t.alarm ≡ false

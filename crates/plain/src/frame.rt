@@ -49,7 +49,9 @@ pub fn well_formed(c: Configuration, frame: &[u8]) -> bool
 
 // The number at an input that is fitted.
 pub(crate) fn sensed(c: Configuration, frame: &[u8], at: Input) -> u8
-    requires { (length frame.now ≡ 83) × ((Bounded c) × (senses c at ≡ true)) }
+    requires whole { length frame.now ≡ 83 }
+    requires bounded { Bounded c }
+    requires fitted { senses c at ≡ true }
     ensures { result ≡ input_number (inputs_in c frame.now) at }
 {
     let from = Places::of(c);

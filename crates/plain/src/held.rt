@@ -8,7 +8,7 @@ ghost use Rattle.plain.specs.Frame.{reading as plain_reading};
 ghost use Rattle.plain.specs.Held.{Blank, «outputs_of», table_size, value_of};
 
 use crate::frame::{padded, sensed, well_formed};
-use crate::tables::Tables;
+use crate::tables::{SlotOutputs, Tables};
 use backplane::configuration::Configuration;
 use backplane::interface::{Backplane, Unfit, Unread};
 use backplane::places::{Input, Output};
@@ -20,8 +20,10 @@ impl Tables {
     {
         Tables {
             frame: [0; 83],
-            lamps: [0; 14],
-            connections: [false; 14],
+            slots: [SlotOutputs {
+                lamp: 0,
+                connected: false,
+            }; 14],
             speeds: [0; 16],
             supplies: [false; 8],
             alarm: false,
@@ -35,8 +37,8 @@ impl Tables {
         ensures { result ≡ outputs_of self.now at }
     {
         match at {
-            Output::Lamp(k) => self.lamps[k],
-            Output::Connection(k) => self.connections[k] as u8,
+            Output::Lamp(k) => self.slots[k].lamp,
+            Output::Connection(k) => self.slots[k].connected as u8,
             Output::Speed(k) => self.speeds[k],
             Output::Supply(k) => self.supplies[k] as u8,
             Output::Alarm => self.alarm as u8,
@@ -54,13 +56,14 @@ impl Tables {
 
     // Makes the number at an output that the tables hold.
     fn put(&mut self, at: Output, number: u8)
-        requires { (index at < table_size at) × (number < numbers at) }
+        requires there { index at < table_size at }
+        requires fits { number < numbers at }
         ensures outputs { (o : Out) → outputs_of self.new o ≡ (if same_output o at then number else outputs_of self.old o) }
         ensures frame { self.new.frame ≡ self.old.frame }
     {
         match at {
-            Output::Lamp(k) => self.lamps[k] = number,
-            Output::Connection(k) => self.connections[k] = number == 1,
+            Output::Lamp(k) => self.slots[k].lamp = number,
+            Output::Connection(k) => self.slots[k].connected = number == 1,
             Output::Speed(k) => self.speeds[k] = number,
             Output::Supply(k) => self.supplies[k] = number == 1,
             Output::Alarm => self.alarm = number == 1,
@@ -85,6 +88,7 @@ impl Plain {
     }
 }
 
+// The packed backplane has the same steps over other things; a trait for those would have to state each contract of Backplane once more, for the step beneath it.
 impl Backplane for Plain {
     ghost value = { λ s. value_of s.configuration s.tables };
 
