@@ -1,15 +1,16 @@
--- Two fitted outputs are one, or their cells are apart; so a write of one output leaves all else.
-use Rattle.std.proofs.Common.{◌≡◌, ℕ, ◌+◌, ◌-◌, ◌/◌, ◌<◌, ◌≤◌, Bool, true, false, cond, ◌&&◌, ltb, leb, ◌⊎◌, List, length, MatchBool, sym, refl, ap, ◌∙◌, subst, inl, inr, ⊎_elim, arith, le-ltb, lt-ltb, leb-true}
+-- Two fitted outputs are one, or share no bit; so a write of one output leaves all else.
+use Rattle.std.proofs.Common.{◌≡◌, ℕ, ◌<◌, ◌≤◌, Bool, true, false, cond, eqb, ◌&&◌, ltb, leb, ◌⊎◌, List, length, MatchResult, is_ok, Ok, Err, Result, sym, refl, ap, ◌∙◌, subst, inl, inr, ⊎_elim, arith, le-ltb, lt-ltb, leb-true}
 use mathlib.Core.Option.{some}
 use base.Fml.{GName}
 use borrow.Author.Tests.{clash}
-use Rattle.std.proofs.lemmas.Bool.{and_parts, cases_Bool, cases_eq, cond-false, cond-true, eq-eqb, eqb-true, ltb-true, ne_eqb}
+use Rattle.std.proofs.lemmas.Bool.{and_from, and_parts, cases_Bool, cond-false, cond-true, eq-eqb, eqb-true}
 use Rattle.std.proofs.lemmas.Bool.Decides.{nat_tests}
 use Rattle.bits.specs.declared.Cell.{Cell}
-use Rattle.bits.specs.Image.{Apart, Put, bit, byte_of, held, limit, within}
+use Rattle.bits.specs.Image.{Put, bit, byte_of, held, limit, within}
+use Rattle.bits.proofs.Told.{same_held}
 use Rattle.backplane.specs.Configured.{kept, none}
 use Rattle.backplane.specs.Few.{few}
-use Rattle.backplane.specs.Meaning.{Bounded, altered, fits, has, numbers, put, same_output}
+use Rattle.backplane.specs.Meaning.{Bounded, altered, fits, has, index, numbers, put, same_output, sort}
 use Rattle.backplane.specs.Same.{same_value}
 use Rattle.backplane.specs.declared.configuration.Configuration.{Configuration}
 use Rattle.backplane.specs.declared.places.Output.{Output}
@@ -17,73 +18,47 @@ use Rattle.backplane.specs.declared.places.Output.TheVariants.{Lamp, Connection,
 use Rattle.packed.specs.Frame.{inputs_in}
 use Rattle.packed.specs.Layout.{cell_of, fitted, is_output, of_output, other_bits, output_at, outputs_of, value_of}
 
-pub which : (c : Configuration) → Bounded c → (o at : Output)
-    → (o ≡ at) ⊎ ((same_output o at ≡ false) × (has c o ≡ true → has c at ≡ true → Apart (cell_of o) (cell_of at)))
-which c b (Lamp j) (Lamp k) = ⊎_elim (λ e. inl (ap Lamp e)) (λ ne. inr (ne_eqb j k ne, λ h g e. ne (omega arith))) (cases_eq j k)
-which c b (Lamp j) (Connection k) = inr (refl, λ h g. let b1 = b.slots in let b2 = b.fans in let b3 = b.supplies in let p = ltb-true j c.counts.slots h in let q = ltb-true k c.counts.slots g in λ e. omega arith)
-which c b (Lamp j) (Speed k) = inr (refl, λ h g. let b1 = b.slots in let b2 = b.fans in let b3 = b.supplies in let p = ltb-true j c.counts.slots h in let q = ltb-true k c.counts.fans g in λ e. omega arith)
-which c b (Lamp j) (Supply k) = inr (refl, λ h g. let b1 = b.slots in let b2 = b.fans in let b3 = b.supplies in let p = ltb-true j c.counts.slots h in let q = ltb-true k c.counts.supplies g in λ e. omega arith)
-which c b (Lamp j) Alarm = inr (refl, λ h g. let b1 = b.slots in let b2 = b.fans in let b3 = b.supplies in let p = ltb-true j c.counts.slots h in λ e. omega arith)
-which c b (Lamp j) Lock = inr (refl, λ h g. let b1 = b.slots in let b2 = b.fans in let b3 = b.supplies in let p = ltb-true j c.counts.slots h in λ e. omega arith)
-which c b (Connection j) (Lamp k) = inr (refl, λ h g. let b1 = b.slots in let b2 = b.fans in let b3 = b.supplies in let p = ltb-true j c.counts.slots h in let q = ltb-true k c.counts.slots g in λ e. omega arith)
-which c b (Connection j) (Connection k) = ⊎_elim (λ e. inl (ap Connection e)) (λ ne. inr (ne_eqb j k ne, λ h g e. ne (omega arith))) (cases_eq j k)
-which c b (Connection j) (Speed k) = inr (refl, λ h g. let b1 = b.slots in let b2 = b.fans in let b3 = b.supplies in let p = ltb-true j c.counts.slots h in let q = ltb-true k c.counts.fans g in λ e. omega arith)
-which c b (Connection j) (Supply k) = inr (refl, λ h g. let b1 = b.slots in let b2 = b.fans in let b3 = b.supplies in let p = ltb-true j c.counts.slots h in let q = ltb-true k c.counts.supplies g in λ e. omega arith)
-which c b (Connection j) Alarm = inr (refl, λ h g. let b1 = b.slots in let b2 = b.fans in let b3 = b.supplies in let p = ltb-true j c.counts.slots h in λ e. omega arith)
-which c b (Connection j) Lock = inr (refl, λ h g. let b1 = b.slots in let b2 = b.fans in let b3 = b.supplies in let p = ltb-true j c.counts.slots h in λ e. omega arith)
-which c b (Speed j) (Lamp k) = inr (refl, λ h g. let b1 = b.slots in let b2 = b.fans in let b3 = b.supplies in let p = ltb-true j c.counts.fans h in let q = ltb-true k c.counts.slots g in λ e. omega arith)
-which c b (Speed j) (Connection k) = inr (refl, λ h g. let b1 = b.slots in let b2 = b.fans in let b3 = b.supplies in let p = ltb-true j c.counts.fans h in let q = ltb-true k c.counts.slots g in λ e. omega arith)
-which c b (Speed j) (Speed k) = ⊎_elim (λ e. inl (ap Speed e)) (λ ne. inr (ne_eqb j k ne, λ h g e. ne (omega arith))) (cases_eq j k)
-which c b (Speed j) (Supply k) = inr (refl, λ h g. let b1 = b.slots in let b2 = b.fans in let b3 = b.supplies in let p = ltb-true j c.counts.fans h in let q = ltb-true k c.counts.supplies g in λ e. omega arith)
-which c b (Speed j) Alarm = inr (refl, λ h g. let b1 = b.slots in let b2 = b.fans in let b3 = b.supplies in let p = ltb-true j c.counts.fans h in λ e. omega arith)
-which c b (Speed j) Lock = inr (refl, λ h g. let b1 = b.slots in let b2 = b.fans in let b3 = b.supplies in let p = ltb-true j c.counts.fans h in λ e. omega arith)
-which c b (Supply j) (Lamp k) = inr (refl, λ h g. let b1 = b.slots in let b2 = b.fans in let b3 = b.supplies in let p = ltb-true j c.counts.supplies h in let q = ltb-true k c.counts.slots g in λ e. omega arith)
-which c b (Supply j) (Connection k) = inr (refl, λ h g. let b1 = b.slots in let b2 = b.fans in let b3 = b.supplies in let p = ltb-true j c.counts.supplies h in let q = ltb-true k c.counts.slots g in λ e. omega arith)
-which c b (Supply j) (Speed k) = inr (refl, λ h g. let b1 = b.slots in let b2 = b.fans in let b3 = b.supplies in let p = ltb-true j c.counts.supplies h in let q = ltb-true k c.counts.fans g in λ e. omega arith)
-which c b (Supply j) (Supply k) = ⊎_elim (λ e. inl (ap Supply e)) (λ ne. inr (ne_eqb j k ne, λ h g e. ne (omega arith))) (cases_eq j k)
-which c b (Supply j) Alarm = inr (refl, λ h g. let b1 = b.slots in let b2 = b.fans in let b3 = b.supplies in let p = ltb-true j c.counts.supplies h in λ e. omega arith)
-which c b (Supply j) Lock = inr (refl, λ h g. let b1 = b.slots in let b2 = b.fans in let b3 = b.supplies in let p = ltb-true j c.counts.supplies h in λ e. omega arith)
-which c b Alarm (Lamp k) = inr (refl, λ h g. let b1 = b.slots in let b2 = b.fans in let b3 = b.supplies in let q = ltb-true k c.counts.slots g in λ e. omega arith)
-which c b Alarm (Connection k) = inr (refl, λ h g. let b1 = b.slots in let b2 = b.fans in let b3 = b.supplies in let q = ltb-true k c.counts.slots g in λ e. omega arith)
-which c b Alarm (Speed k) = inr (refl, λ h g. let b1 = b.slots in let b2 = b.fans in let b3 = b.supplies in let q = ltb-true k c.counts.fans g in λ e. omega arith)
-which c b Alarm (Supply k) = inr (refl, λ h g. let b1 = b.slots in let b2 = b.fans in let b3 = b.supplies in let q = ltb-true k c.counts.supplies g in λ e. omega arith)
-which c b Alarm Alarm = inl refl
-which c b Alarm Lock = inr (refl, λ h g. let b1 = b.slots in let b2 = b.fans in let b3 = b.supplies in λ e. omega arith)
-which c b Lock (Lamp k) = inr (refl, λ h g. let b1 = b.slots in let b2 = b.fans in let b3 = b.supplies in let q = ltb-true k c.counts.slots g in λ e. omega arith)
-which c b Lock (Connection k) = inr (refl, λ h g. let b1 = b.slots in let b2 = b.fans in let b3 = b.supplies in let q = ltb-true k c.counts.slots g in λ e. omega arith)
-which c b Lock (Speed k) = inr (refl, λ h g. let b1 = b.slots in let b2 = b.fans in let b3 = b.supplies in let q = ltb-true k c.counts.fans g in λ e. omega arith)
-which c b Lock (Supply k) = inr (refl, λ h g. let b1 = b.slots in let b2 = b.fans in let b3 = b.supplies in let q = ltb-true k c.counts.supplies g in λ e. omega arith)
-which c b Lock Alarm = inr (refl, λ h g. let b1 = b.slots in let b2 = b.fans in let b3 = b.supplies in λ e. omega arith)
-which c b Lock Lock = inl refl
+-- the output of a sort that has a number among those
+abbrev numbered : ℕ → ℕ → Output
+numbered s k = cond (eqb s 0) (Lamp k) (cond (eqb s 1) (Connection k) (cond (eqb s 2) (Speed k) (cond (eqb s 3) (Supply k) (cond (eqb s 4) Alarm Lock))))
+
+numbered_back : (o : Output) → numbered (sort o) (index o) ≡ o
+numbered_back (Lamp k) = refl
+numbered_back (Connection k) = refl
+numbered_back (Speed k) = refl
+numbered_back (Supply k) = refl
+numbered_back Alarm = refl
+numbered_back Lock = refl
+
+same_is : (o at : Output) → same_output o at ≡ true → o ≡ at
+same_is o at e =
+    let p = and_parts (eqb (sort o) (sort at)) (eqb (index o) (index at)) e in
+    sym (numbered_back o) ∙ ap (λ s. numbered s (index o)) (eqb-true (sort o) (sort at) p.0) ∙ ap (numbered (sort at)) (eqb-true (index o) (index at) p.1) ∙ numbered_back at
+
+pub which : (o at : Output) → (o ≡ at) ⊎ (same_output o at ≡ false)
+which o at = ⊎_elim (λ e. inl (same_is o at e)) (λ e. inr e) (cases_Bool (same_output o at))
 
 pub same_self : (o : Output) → same_output o o ≡ true
-same_self (Lamp k) = eq-eqb k k refl
-same_self (Connection k) = eq-eqb k k refl
-same_self (Speed k) = eq-eqb k k refl
-same_self (Supply k) = eq-eqb k k refl
-same_self Alarm = refl
-same_self Lock = refl
+same_self o = and_from (eqb (sort o) (sort o)) (eqb (index o) (index o)) (eq-eqb (sort o) (sort o) refl) (eq-eqb (index o) (index o) refl)
 
 -- the output of a bit is found again from any of its bits
 pub found : (c : Configuration) → Bounded c → (at : Output) (k : ℕ) → has c at ≡ true → within k (cell_of at) ≡ true → output_at k ≡ at
-found c b (Lamp a) k h g =
-    let b1 = b.slots in let p = ltb-true a c.counts.slots h in let q = eqb-true (k / 4) a g in
-    cond-true (ltb k 56) _ _ (lt-ltb k 56 (omega arith)) ∙ ap Lamp q
-found c b (Connection a) k h g =
-    let b1 = b.slots in let p = ltb-true a c.counts.slots h in let q = eqb-true k (56 + a) g in
-    let e : k - 56 ≡ a = omega arith in
-    cond-false (ltb k 56) _ _ (le-ltb k 56 (omega arith)) ∙ cond-true (ltb k 72) _ _ (lt-ltb k 72 (omega arith)) ∙ ap Connection e
-found c b (Speed a) k h g =
-    let b1 = b.fans in let p = ltb-true a c.counts.fans h in let q = eqb-true (k / 4) (18 + a) g in
-    let e : k / 4 - 18 ≡ a = omega arith in
-    cond-false (ltb k 56) _ _ (le-ltb k 56 (omega arith)) ∙ cond-false (ltb k 72) _ _ (le-ltb k 72 (omega arith)) ∙ cond-true (ltb k 136) _ _ (lt-ltb k 136 (omega arith)) ∙ ap Speed e
-found c b (Supply a) k h g =
-    let b1 = b.supplies in let p = ltb-true a c.counts.supplies h in let q = eqb-true k (136 + a) g in
-    let e : k - 136 ≡ a = omega arith in
-    cond-false (ltb k 56) _ _ (le-ltb k 56 (omega arith)) ∙ cond-false (ltb k 72) _ _ (le-ltb k 72 (omega arith)) ∙ cond-false (ltb k 136) _ _ (le-ltb k 136 (omega arith))
-    ∙ cond-true (ltb k 144) _ _ (lt-ltb k 144 (omega arith)) ∙ ap Supply e
+found c b (Lamp a) k h g = let b1 = b.slots in grind (arith, nat_tests)
+found c b (Connection a) k h g = let b1 = b.slots in grind (arith, nat_tests)
+found c b (Speed a) k h g = let b1 = b.fans in grind (arith, nat_tests)
+found c b (Supply a) k h g = let b1 = b.supplies in grind (arith, nat_tests)
 found c b Alarm k h g = ap output_at (eqb-true k 144 g)
 found c b Lock k h g = ap output_at (eqb-true k 145 g)
+
+-- so two fitted outputs share no bit
+pub no_bit_shared : (c : Configuration) → Bounded c → (o at : Output) (k : ℕ) → same_output o at ≡ false → has c o ≡ true → has c at ≡ true → within k (cell_of o) ≡ true → within k (cell_of at) ≡ false
+no_bit_shared c b o at k ne h g w =
+    ⊎_elim
+    (λ (v : within k (cell_of at) ≡ true).
+    let is : o ≡ at = sym (found c b o k h w) ∙ found c b at k g v in
+    absurd (clash (sym ne ∙ ap (λ (x : Output). same_output x at) is ∙ same_self at)))
+    (λ v. v)
+    (cases_Bool (within k (cell_of at)))
 
 -- a bit of an output is one of the output that is found there
 pub fitted_there : (c : Configuration) → Bounded c → (k : ℕ) → is_output c k ≡ true → of_output c k ≡ true
@@ -105,11 +80,11 @@ outputs_after c b old new at n g w o =
     (λ e. ap (outputs_of c new) e ∙ ap (λ t. cond t (held new (cell_of at)) 0) g ∙ w.there
     ∙ sym (ap (λ x. cond (same_output x at) n (outputs_of c old x)) e ∙ ap (λ t. cond t n (outputs_of c old at)) (same_self at)))
     (λ ne. ⊎_elim
-    (λ h. ap (λ x. cond (has c o) x 0) (w.others (cell_of o) (ne.1 h g)))
+    (λ h. ap (λ x. cond (has c o) x 0) (same_held new old (cell_of o) (λ k e. w.bits k (no_bit_shared c b o at k ne h g e))))
     (λ h. ap (λ t. cond t (held new (cell_of o)) 0) h ∙ sym (ap (λ t. cond t (held old (cell_of o)) 0) h))
     (cases_Bool (has c o))
-    ∙ sym (cond-false (same_output o at) n _ ne.0))
-    (which c b o at)
+    ∙ sym (cond-false (same_output o at) n _ ne))
+    (which o at)
 
 -- and no bit of another thing does
 pub bits_after : (c : Configuration) (old new : List ℕ) (at : Output) (n : ℕ) → has c at ≡ true → Put old new (cell_of at) n
@@ -141,12 +116,12 @@ value_after c frame old new lender at n g w =
 
 -- the image has room for the cell of an output that is fitted, and the cell for its numbers
 in_image : (c : Configuration) → Bounded c → (image : List ℕ) (at : Output) (n : ℕ) → 19 ≤ length image → fits c at n ≡ true → (byte_of (cell_of at) < length image) × (n < limit (cell_of at))
-in_image c b image (Lamp k) n long g = let b1 = b.slots in let p = and_parts (ltb k c.counts.slots) (ltb n 8) g in let q = ltb-true k c.counts.slots p.0 in let r = ltb-true n 8 p.1 in (omega arith, omega arith)
-in_image c b image (Connection k) n long g = let b1 = b.slots in let p = and_parts (ltb k c.counts.slots) (ltb n 2) g in let q = ltb-true k c.counts.slots p.0 in let r = ltb-true n 2 p.1 in (omega arith, omega arith)
-in_image c b image (Speed k) n long g = let b1 = b.fans in let p = and_parts (ltb k c.counts.fans) (ltb n 5) g in let q = ltb-true k c.counts.fans p.0 in let r = ltb-true n 5 p.1 in (omega arith, omega arith)
-in_image c b image (Supply k) n long g = let b1 = b.supplies in let p = and_parts (ltb k c.counts.supplies) (ltb n 2) g in let q = ltb-true k c.counts.supplies p.0 in let r = ltb-true n 2 p.1 in (omega arith, omega arith)
-in_image c b image Alarm n long g = let p = and_parts c.alarm (ltb n 2) g in let r = ltb-true n 2 p.1 in (omega arith, omega arith)
-in_image c b image Lock n long g = let p = and_parts c.lock (ltb n 2) g in let r = ltb-true n 2 p.1 in (omega arith, omega arith)
+in_image c b image (Lamp k) n long g = let b1 = b.slots in (grind (arith, nat_tests), grind (arith, nat_tests))
+in_image c b image (Connection k) n long g = let b1 = b.slots in (grind (arith, nat_tests), grind (arith, nat_tests))
+in_image c b image (Speed k) n long g = let b1 = b.fans in (grind (arith, nat_tests), grind (arith, nat_tests))
+in_image c b image (Supply k) n long g = let b1 = b.supplies in (grind (arith, nat_tests), grind (arith, nat_tests))
+in_image c b image Alarm n long g = (omega arith, grind (arith, nat_tests))
+in_image c b image Lock n long g = (omega arith, grind (arith, nat_tests))
 
 no_less : (k : ℕ) → ltb k 0 ≡ false
 no_less k = le-ltb k 0 (omega arith)
@@ -169,11 +144,9 @@ cell_fits c image at n g =
     in_image (fitted c image) (few c (leb 19 (length image))) image at n (leb-true 19 (length image) (roomy c (leb 19 (length image)) at n g)) g
 
 -- what a write that fits leaves
-pub put_there : (old new : List ℕ) (at cell : Cell) (n : ℕ) (r : Bool) → at ≡ cell → r ≡ (ltb (byte_of at) (length old) && ltb n (limit at)) → (byte_of cell < length old) × (n < limit cell)
-    → MatchBool r (Put old new at n) (new ≡ old) → Put old new cell n
-put_there old new at cell n r is says fit done =
+pub put_there : {A E : Type 0} (old new : List ℕ) (at cell : Cell) (n : ℕ) (r : Result A E) → at ≡ cell → is_ok r ≡ (ltb (byte_of at) (length old) && ltb n (limit at)) → (byte_of cell < length old) × (n < limit cell)
+    → MatchResult r (λ _. Put old new at n) (λ _. new ≡ old) → Put old new cell n
+put_there old new at cell n (Ok _) is says fit done = let P : Cell → Type 0 = λ x. Put old new x n in subst P is done
+put_there old new at cell n (Err _) is says fit done =
     let both : (ltb (byte_of cell) (length old) && ltb n (limit cell)) ≡ true = ap (λ t. t && ltb n (limit cell)) (lt-ltb (byte_of cell) (length old) fit.0) ∙ lt-ltb n (limit cell) fit.1 in
-    let so : r ≡ true = says ∙ ap (λ (x : Cell). ltb (byte_of x) (length old) && ltb n (limit x)) is ∙ both in
-    let P : Cell → Type 0 = λ x. Put old new x n in
-    let Q : Bool → Type 0 = λ t. MatchBool t (Put old new at n) (new ≡ old) in
-    subst P is (subst Q so done)
+    absurd (clash (says ∙ ap (λ (x : Cell). ltb (byte_of x) (length old) && ltb n (limit x)) is ∙ both))

@@ -64,9 +64,9 @@ one_set c b at n old g k =
     (λ e. ⊎_elim
     (λ is. absurd (clash (sym w ∙ ap (λ (o : Output). within k (cell_of o)) (sym is) ∙ (and_parts (has c (output_at k)) (within k (cell_of (output_at k))) e).1)))
     (λ ne. cond-true (of_output c k) (given_by f k) (bit old k) e
-    ∙ ap (λ x. bit_at x (inner k (cell_of (output_at k)))) (cond-false (same_output (output_at k) at) n (outputs_of c old (output_at k)) ne.0)
+    ∙ ap (λ x. bit_at x (inner k (cell_of (output_at k)))) (cond-false (same_output (output_at k) at) n (outputs_of c old (output_at k)) ne)
     ∙ sym (output_bit c old k e))
-    (which c b (output_at k) at))
+    (which (output_at k) at))
     (λ e. cond-false (of_output c k) (given_by f k) (bit old k) e)
     (cases_Bool (of_output c k))
     ∙ sym (cond-false (fits c at n && within k (cell_of at)) there (bit old k) (and_right (fits c at n) (within k (cell_of at)) w)))

@@ -1,5 +1,6 @@
 -- The frame of a packed backplane: 33 bytes.
-use Rattle.std.specs.Prelude.{ℕ, zero, suc, ◌+◌, Bool, true, false, cond, ◌&&◌, List, length, Some, None, Option, ◌==◌, nat_le, nat_lt, slice_index}
+use Rattle.std.specs.Prelude.{ℕ, ◌+◌, Bool, false, cond, ◌&&◌, List, length, Some, None, Option, ◌==◌, nat_le, nat_lt, slice_index}
+use Rattle.std.specs.List.{list_all, range_with_len}
 use Rattle.bits.specs.Image.{bit, half}
 use Rattle.enclosure.specs.declared.conditions.Condition.TheVariants.{Works}
 use Rattle.backplane.specs.Meaning.{Inputs, condition_of}
@@ -7,8 +8,7 @@ use Rattle.backplane.specs.declared.configuration.Configuration.{Configuration}
 
 -- the n halves from a place on are conditions, 0 to 4
 abbrev pub conditions_at : List ℕ → ℕ → ℕ → Bool
-conditions_at frame at zero = true
-conditions_at frame at (suc n) = conditions_at frame at n && nat_le (half frame (at + n)) 4
+conditions_at frame at n = list_all (λ k. nat_le (half frame (at + k)) 4) (range_with_len 0 n)
 
 -- 33 bytes, and the conditions of the parts that are fitted are 0 to 4
 abbrev pub well_formed : Configuration → List ℕ → Bool

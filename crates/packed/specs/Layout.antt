@@ -9,6 +9,7 @@ use Rattle.enclosure.specs.declared.counts.PartCounts.{PartCounts}
 use Rattle.backplane.specs.Configured.{configured, kept, none}
 use Rattle.backplane.specs.Meaning.{Beside, Outputs, Value, fits, has, no_inputs}
 use Rattle.backplane.specs.declared.configuration.Configuration.{Configuration}
+use Rattle.backplane.specs.declared.configuration.Fittings.{Fittings}
 use Rattle.backplane.specs.declared.places.Output.{Output}
 use Rattle.backplane.specs.declared.places.Output.TheVariants.{Lamp, Connection, Speed, Supply, Alarm, Lock}
 use Rattle.packed.specs.Frame.{inputs_in}
@@ -75,6 +76,9 @@ beside_of c image lender = record { lender = some lender; bits = other_bits c im
 -- what one is fitted with that is made over an image: the parts that are wanted, if they are well-formed and the image has 19 bytes; else none at all
 abbrev pub fitted_with : PartCounts → Bool → Bool → List ℕ → List ℕ → Configuration
 fitted_with counts lock alarm ids image = cond (nat_le 19 (length image)) (configured counts lock alarm ids) none
+
+abbrev pub fitted_over : Fittings → List ℕ → Configuration
+fitted_over f image = fitted_with f.counts f.lock f.alarm f.ids.now image
 
 -- the value of one that is made over an image: all inputs 0, and the image as it is
 abbrev pub made_over : Configuration → List ℕ → GName → Value

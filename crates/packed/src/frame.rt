@@ -13,11 +13,7 @@ fn are_conditions(frame: &[u8], at: usize, count: u8) -> bool
     requires { at ≤ 20 }
     ensures { result ≡ conditions_at frame.now at count }
 {
-    let mut all = true;
-    for k in 0..count {
-        all &= Cell::Half(at + k as usize).get(frame) <= 4;
-    }
-    all
+    (0..count).all(|k| Cell::Half(at + k as usize).get(frame) <= 4)
 }
 
 // Whether a frame reads as something.
@@ -30,7 +26,9 @@ pub fn well_formed(c: Configuration, frame: &[u8]) -> bool
 
 // The number at an input that is fitted.
 pub(crate) fn sensed(c: Configuration, frame: &[u8], at: Input) -> u8
-    requires { (length frame.now ≡ 33) × ((Bounded c) × (senses c at ≡ true)) }
+    requires whole { length frame.now ≡ 33 }
+    requires bounded { Bounded c }
+    requires fitted { senses c at ≡ true }
     ensures { result ≡ input_number (inputs_in c frame.now) at }
 {
     match at {

@@ -68,8 +68,7 @@ impl Backplane for Packed<'_> {
 
     fn set(&mut self, at: Output, number: u8) -> Result<(), Unfit> {
         if self.parts().fits(at, number) {
-            let _ = place(at).put(self.image, number);
-            Ok(())
+            place(at).put(self.image, number).map_err(|_| Unfit)
         } else {
             Err(Unfit)
         }

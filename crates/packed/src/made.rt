@@ -1,33 +1,26 @@
 // Making a packed backplane, and what it shows to code above.
 ghost use Rattle.std.specs.Prelude.{◌≡◌, ℕ, replicate, is_ok};
 ghost use Rattle.bits.specs.Image.{bit};
-ghost use Rattle.backplane.specs.Configured.{configured};
+ghost use Rattle.backplane.specs.Configured.{asked};
 ghost use Rattle.backplane.specs.Meaning.{fits, put};
 ghost use Rattle.packed.specs.Frame.{reading as packed_reading};
-ghost use Rattle.packed.specs.Layout.{bit_set, fitted, fitted_with, made_over, value_of};
+ghost use Rattle.packed.specs.Layout.{bit_set, fitted, fitted_over, made_over, value_of};
 
 use crate::held::Packed;
-use backplane::configuration::Configuration;
+use backplane::configuration::{Configuration, Fittings};
 use backplane::interface::{Backplane, Unfit};
 use backplane::places::Output;
-use enclosure::counts::PartCounts;
 
 impl<'a> Packed<'a> {
-    // A backplane with these parts over the caller's image, no bit of which is written, all its inputs 0.
+    // A backplane with these fittings over the caller's image, no bit of which is written, all its inputs 0.
     // Where a count is out of range, the IDs are not one for each slot, an ID is above 15 or the image has under 19 bytes, it has nothing at all.
-    pub fn new(
-        counts: PartCounts,
-        lock: bool,
-        alarm: bool,
-        ids: &[u8],
-        image: &'a mut [u8],
-    ) -> Packed<'a>
-        ensures holds { value_of result.configuration result.frame result.image.now result.image.ghost_name ≡ value_of (configured counts lock alarm ids.now) (replicate 33 0) image.old image.entry.ghost_name }
-        ensures shows { ⟦<Packed<'a> as Backplane>⟧.value result ≡ made_over (fitted_with counts lock alarm ids.now image.old) image.old image.entry.ghost_name }
+    pub fn new(fittings: Fittings, image: &'a mut [u8]) -> Packed<'a>
+        ensures holds { value_of result.configuration result.frame result.image.now result.image.ghost_name ≡ value_of (asked fittings.entry) (replicate 33 0) image.old image.entry.ghost_name }
+        ensures shows { ⟦<Packed<'a> as Backplane>⟧.value result ≡ made_over (fitted_over fittings.entry image.old) image.old image.entry.ghost_name }
         ensures image { result.image.now ≡ image.old }
     {
         Packed {
-            configuration: Configuration::of(counts, lock, alarm, ids),
+            configuration: Configuration::of(fittings),
             frame: [0; 33],
             image,
         }
