@@ -1,6 +1,6 @@
 -- The value of a packed backplane tells every bit of its image.
 use Rattle.std.proofs.Common.{◌≡◌, ℕ, Bool, true, false, cond, ◌&&◌, ltb, List, sym, refl, ap, ◌∙◌, ⊎_elim}
-use mathlib.Core.Option.{Option as Maybe, some, none as nobody}
+use mathlib.Core.Option.{some}
 use base.Fml.{GName}
 use borrow.Author.Tests.{clash}
 use Rattle.std.proofs.lemmas.Bool.{and_from, and_left, and_parts, and_right, cases_Bool, cond-false, cond-true}
@@ -72,11 +72,6 @@ one_set c b at n old g k =
     ∙ sym (cond-false (fits c at n && within k (cell_of at)) there (bit old k) (and_right (fits c at n) (within k (cell_of at)) w)))
     (cases_Bool (within k (cell_of at)))
 
--- whose memory it is
-abbrev pub whose : GName → Maybe GName → GName
-whose d (some x) = x
-whose d nobody = d
-
 -- what a packed backplane of the value v says of its image
 pub record Ends (new : List ℕ) (lent : GName) (v : Value) : Type 0 where
   pub outputs : outputs_of v.configuration new ≡ v.outputs
@@ -93,34 +88,15 @@ ends c frame new lent v e =
     }
 
 -- an output is set: what the image then is
-pub record After (c : Configuration) (old new : List ℕ) (at : Output) (n : ℕ) : Type 0 where
-  pub bits : (k : ℕ) → bit new k ≡ bit_set c at n old k
-
 pub after_set : (c d : Configuration) (frame last old new : List ℕ) (lent held : GName) (at : Output) (n : ℕ) → value_of d last new held ≡ put (value_of c frame old lent) at n
-    → After (fitted c old) old new at n
-after_set c d frame last old new lent held at n is =
+    → (k : ℕ) → bit new k ≡ bit_set (fitted c old) at n old k
+after_set c d frame last old new lent held at n is k =
     let f = fitted c old in
     let v = value_of c frame old lent in
     ⊎_elim
     (λ g. let e = ends d last new held (altered v at n) (is ∙ cond-true (fits f at n) (altered v at n) v g) in
-    record {
-      bits = λ k. bits_told f (few c _) old new _ e.outputs e.bits k ∙ one_set f (few c _) at n old g k;
-    })
+    bits_told f (few c _) old new _ e.outputs e.bits k ∙ one_set f (few c _) at n old g k)
     (λ g. let e = ends d last new held v (is ∙ cond-false (fits f at n) (altered v at n) v g) in
-    record {
-      bits = λ k. bits_told f (few c _) old new _ e.outputs e.bits k ∙ same_bits f (few c _) old k
-          ∙ sym (cond-false (fits f at n && within k (cell_of at)) _ (bit old k) (and_left (fits f at n) (within k (cell_of at)) g));
-    })
+    bits_told f (few c _) old new _ e.outputs e.bits k ∙ same_bits f (few c _) old k
+    ∙ sym (cond-false (fits f at n && within k (cell_of at)) _ (bit old k) (and_left (fits f at n) (within k (cell_of at)) g)))
     (cases_Bool (fits f at n))
-
--- the memory is the one that was lent
-lender_put : (v : Value) (at : Output) (n : ℕ) → (put v at n).beside.lender ≡ v.beside.lender
-lender_put v at n =
-    ⊎_elim
-    (λ g. ap (λ w. w.beside.lender) (cond-true (fits v.configuration at n) (altered v at n) v g))
-    (λ g. ap (λ w. w.beside.lender) (cond-false (fits v.configuration at n) (altered v at n) v g))
-    (cases_Bool (fits v.configuration at n))
-
-pub same_lender : (c d : Configuration) (frame last old new : List ℕ) (lent held : GName) (at : Output) (n : ℕ) → value_of d last new held ≡ put (value_of c frame old lent) at n → held ≡ lent
-same_lender c d frame last old new lent held at n is =
-    ap (whose lent) (ap (λ w. w.beside.lender) is ∙ lender_put (value_of c frame old lent) at n)

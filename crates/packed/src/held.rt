@@ -60,9 +60,7 @@ impl Backplane for Packed<'_> {
         if !well_formed(self.parts(), frame) {
             return Err(Unread);
         }
-        let mut copy = [0; 33];
-        copy.copy_from_slice(frame);
-        self.frame = copy;
+        self.frame.copy_from_slice(frame);
         Ok(())
     }
 
