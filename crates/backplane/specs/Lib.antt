@@ -2,3 +2,4 @@ pub mod Configured
 pub mod Meaning
 pub mod Same
 pub mod Few
+pub mod Rows

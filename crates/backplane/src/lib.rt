@@ -5,3 +5,4 @@ pub mod configuration;
 pub mod fits;
 pub mod interface;
 pub mod places;
+pub mod rows;

@@ -1,45 +1,26 @@
 -- Two fitted outputs are one, or share no bit; so a write of one output leaves all else.
-use Rattle.std.proofs.Common.{◌≡◌, ℕ, ◌<◌, ◌≤◌, Bool, true, false, cond, eqb, ◌&&◌, ltb, leb, ◌⊎◌, List, length, MatchResult, is_ok, Ok, Err, Result, sym, refl, ap, ◌∙◌, subst, inl, inr, ⊎_elim, arith, le-ltb, lt-ltb, leb-true}
+use Rattle.std.proofs.Common.{◌≡◌, ℕ, ◌<◌, ◌≤◌, Bool, true, false, cond, ◌&&◌, ltb, leb, ◌⊎◌, List, length, MatchResult, is_ok, Ok, Err, Result, sym, refl, ap, ◌∙◌, subst, inl, inr, ⊎_elim, arith, le-ltb, lt-ltb, leb-true}
 use mathlib.Core.Option.{some}
 use base.Fml.{GName}
 use borrow.Author.Tests.{clash}
-use Rattle.std.proofs.lemmas.Bool.{and_from, and_parts, cases_Bool, cond-false, cond-true, eq-eqb, eqb-true}
+use Rattle.std.proofs.lemmas.Bool.{and_parts, cases_Bool, cond-false, cond-true, eqb-true}
 use Rattle.std.proofs.lemmas.Bool.Decides.{nat_tests}
 use Rattle.bits.specs.declared.Cell.{Cell}
 use Rattle.bits.specs.Image.{Put, bit, byte_of, held, limit, within}
 use Rattle.bits.proofs.Told.{same_held}
 use Rattle.backplane.specs.Configured.{kept, none}
 use Rattle.backplane.specs.Few.{few}
-use Rattle.backplane.specs.Meaning.{Bounded, altered, fits, has, index, numbers, put, same_output, sort}
+use Rattle.backplane.specs.Meaning.{Bounded, altered, fits, has, numbers, put, same_output}
 use Rattle.backplane.specs.Same.{same_value}
 use Rattle.backplane.specs.declared.configuration.Configuration.{Configuration}
 use Rattle.backplane.specs.declared.places.Output.{Output}
 use Rattle.backplane.specs.declared.places.Output.TheVariants.{Lamp, Connection, Speed, Supply, Alarm, Lock}
+use Rattle.backplane.proofs.Numbered.{same_is, same_self}
 use Rattle.packed.specs.Frame.{inputs_in}
 use Rattle.packed.specs.Layout.{cell_of, fitted, is_output, of_output, other_bits, output_at, outputs_of, value_of}
 
--- the output of a sort that has a number among those
-abbrev numbered : ℕ → ℕ → Output
-numbered s k = cond (eqb s 0) (Lamp k) (cond (eqb s 1) (Connection k) (cond (eqb s 2) (Speed k) (cond (eqb s 3) (Supply k) (cond (eqb s 4) Alarm Lock))))
-
-numbered_back : (o : Output) → numbered (sort o) (index o) ≡ o
-numbered_back (Lamp k) = refl
-numbered_back (Connection k) = refl
-numbered_back (Speed k) = refl
-numbered_back (Supply k) = refl
-numbered_back Alarm = refl
-numbered_back Lock = refl
-
-same_is : (o at : Output) → same_output o at ≡ true → o ≡ at
-same_is o at e =
-    let p = and_parts (eqb (sort o) (sort at)) (eqb (index o) (index at)) e in
-    sym (numbered_back o) ∙ ap (λ s. numbered s (index o)) (eqb-true (sort o) (sort at) p.0) ∙ ap (numbered (sort at)) (eqb-true (index o) (index at) p.1) ∙ numbered_back at
-
 pub which : (o at : Output) → (o ≡ at) ⊎ (same_output o at ≡ false)
 which o at = ⊎_elim (λ e. inl (same_is o at e)) (λ e. inr e) (cases_Bool (same_output o at))
-
-pub same_self : (o : Output) → same_output o o ≡ true
-same_self o = and_from (eqb (sort o) (sort o)) (eqb (index o) (index o)) (eq-eqb (sort o) (sort o) refl) (eq-eqb (index o) (index o) refl)
 
 -- the output of a bit is found again from any of its bits
 pub found : (c : Configuration) → Bounded c → (at : Output) (k : ℕ) → has c at ≡ true → within k (cell_of at) ≡ true → output_at k ≡ at

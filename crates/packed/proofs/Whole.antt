@@ -10,8 +10,9 @@ use Rattle.backplane.specs.Meaning.{Bounded, Outputs, Value, altered, fits, has,
 use Rattle.backplane.specs.Few.{few}
 use Rattle.backplane.specs.declared.configuration.Configuration.{Configuration}
 use Rattle.backplane.specs.declared.places.Output.{Output}
+use Rattle.backplane.proofs.Numbered.{same_self}
 use Rattle.packed.specs.Layout.{bit_of, bit_set, cell_of, fitted, is_output, of_output, other_bits, output_at, outputs_of, value_of}
-use Rattle.packed.proofs.Places.{fitted_there, found, same_self, which}
+use Rattle.packed.proofs.Places.{fitted_there, found, which}
 
 -- the bit that an output's number gives the image
 abbrev pub given_by : Outputs → ℕ → Bool

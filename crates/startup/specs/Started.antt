@@ -1,8 +1,10 @@
 -- The outputs as a shelf is switched on: fans run at 4, supplies are on, the alarm is off, the lock open.
-use Rattle.std.specs.Prelude.{ℕ, Bool, true, false, cond, ◌&&◌, Some, None, Option, nat_lt}
+use Rattle.std.specs.Prelude.{ℕ, Bool, true, false, cond, ◌&&◌, Some, None, Option}
 use Rattle.backplane.specs.Meaning.{Inputs, Value, has, sampled}
+use Rattle.backplane.specs.Rows.{row_below}
 use Rattle.backplane.specs.declared.places.Output.{Output}
 use Rattle.backplane.specs.declared.places.Output.TheVariants.{Lamp, Connection, Speed, Supply, Alarm, Lock}
+use Rattle.backplane.specs.declared.rows.Row.TheVariants.{Speeds, Supplies}
 
 -- the outputs that are set: lamps and connections depend on the slots, and are left
 abbrev pub starts : Output → Bool
@@ -38,17 +40,7 @@ switched_on v None = v
 
 -- the fans, the supplies below a number
 abbrev pub fans_below : ℕ → Output → Bool
-fans_below n (Lamp k) = false
-fans_below n (Connection k) = false
-fans_below n (Speed k) = nat_lt k n
-fans_below n (Supply k) = false
-fans_below n Alarm = false
-fans_below n Lock = false
+fans_below = row_below Speeds
 
 abbrev pub supplies_below : ℕ → Output → Bool
-supplies_below n (Lamp k) = false
-supplies_below n (Connection k) = false
-supplies_below n (Speed k) = false
-supplies_below n (Supply k) = nat_lt k n
-supplies_below n Alarm = false
-supplies_below n Lock = false
+supplies_below = row_below Supplies
