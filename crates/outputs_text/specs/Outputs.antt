@@ -1,26 +1,14 @@
 -- The outputs of a backplane, and how they are printed.
-use Rattle.std.specs.Prelude.{ℕ, zero, suc, cond, List, [], ◌∷◌, ◌++◌, vec_items, codes, decimal}
-use Rattle.std.specs.List.{flat_map}
+use Rattle.std.specs.Prelude.{ℕ, cond, List, [], ◌∷◌, ◌++◌, map, vec_items, codes, decimal}
+use Rattle.std.specs.List.{flat_map, range_with_len}
 use Rattle.backplane.specs.Meaning.{Outputs, Value, has}
+use Rattle.backplane.specs.Rows.{place_in, row_length}
 use Rattle.backplane.specs.declared.configuration.Configuration.{Configuration}
 use Rattle.backplane.specs.declared.places.Output.{Output}
-use Rattle.backplane.specs.declared.places.Output.TheVariants.{Lamp, Connection, Speed, Supply, Alarm, Lock}
-use Rattle.outputs_text.specs.declared.rows.Row.{Row}
-use Rattle.outputs_text.specs.declared.rows.Row.TheVariants.{Lamps, Connections, Speeds, Supplies}
+use Rattle.backplane.specs.declared.places.Output.TheVariants.{Alarm, Lock}
+use Rattle.backplane.specs.declared.rows.Row.{Row}
+use Rattle.backplane.specs.declared.rows.Row.TheVariants.{Lamps, Connections, Speeds, Supplies}
 use Rattle.outputs_text.specs.declared.shown.OutputNumbers.{OutputNumbers}
-
--- how many outputs a row has, and output k of it
-abbrev pub row_length : Row → Configuration → ℕ
-row_length Lamps c = c.counts.slots
-row_length Connections c = c.counts.slots
-row_length Speeds c = c.counts.fans
-row_length Supplies c = c.counts.supplies
-
-abbrev pub place_in : Row → ℕ → Output
-place_in Lamps k = Lamp k
-place_in Connections k = Connection k
-place_in Speeds k = Speed k
-place_in Supplies k = Supply k
 
 -- what is seen of a backplane from outside: its configuration, and the number at each output
 pub record Outside : Type 0 where
@@ -36,8 +24,7 @@ number_at v at = cond (has v.configuration at) (v.outputs at) 0
 
 -- the numbers of the first n outputs of a row, and of all
 abbrev pub numbers_to : Outside → Row → ℕ → List ℕ
-numbers_to v row zero = []
-numbers_to v row (suc n) = numbers_to v row n ++ number_at v (place_in row n) ∷ []
+numbers_to v row n = map (λ k. number_at v (place_in row k)) (range_with_len 0 n)
 
 unfoldable pub row_shown : Outside → Row → List ℕ
 row_shown v row = numbers_to v row (row_length row v.configuration)
