@@ -2,7 +2,7 @@
 ghost use Rattle.std.specs.Prelude.{◌≡◌, ℕ, ◌<◌};
 ghost use Rattle.driving.specs.Obeyed.{flags_after, slots_after, value_after};
 ghost use Rattle.orders.specs.Decoded.{order_as};
-ghost use Rattle.table.specs.Table.{slots_of};
+ghost use Rattle.table.specs.Table.{counts_of, slots_of};
 
 use backplane::interface::Backplane;
 use backplane::places::Output;
@@ -20,7 +20,7 @@ impl Memory {
     // Obeys an order.
     pub fn obey<B: Backplane>(&mut self, b: &mut B, order: Order<'_>)
         ensures slots { (k : ℕ) → k < 14 → slots_of self.new.table k ≡ slots_after (order_as order.entry) (slots_of self.old.table) k }
-        ensures counts { self.new.table.counts ≡ self.old.table.counts }
+        ensures counts { counts_of self.new.table ≡ counts_of self.old.table }
         ensures flags { self.new.flags ≡ flags_after (order_as order.entry) self.old.flags }
         ensures does { B.Backplane.value b.new ≡ value_after (order_as order.entry) (slots_of self.new.table) (B.Backplane.value b.old) }
     {

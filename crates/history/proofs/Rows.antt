@@ -127,7 +127,7 @@ fine_unconfigured t h =
     go true = h.rebuild
     go false = ap (λ (b : Bool). b && rebuild_stopped t.more) same ∙ h.rebuild
 
-fine_stored : (t : Row) → both_rebuild t ≡ false → Fine (stored t)
+pub fine_stored : (t : Row) → both_rebuild t ≡ false → Fine (stored t)
 fine_stored t h =
     let z : t.more % 4 / 2 % 2 ≡ t.more / 2 % 2 = omega arith in
     let q : rebuild_stopped (t.more % 4) ≡ rebuild_stopped t.more = ap (λ (y : ℕ). eqb y 1) z in

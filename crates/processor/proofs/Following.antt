@@ -1,5 +1,5 @@
 -- A command of a shelf follows the history.
-use Rattle.std.proofs.Common.{◌≡◌, ℕ, ◌<◌, ◌≤◌, true, false, cond, eqb, List, get_or, Ok, Err, sym, ap, ◌∙◌, subst}
+use Rattle.std.proofs.Common.{◌≡◌, ℕ, ◌<◌, ◌≤◌, true, false, cond, eqb, List, Ok, Err, sym, ap, ◌∙◌, subst}
 use Rattle.std.proofs.lemmas.Bool.{both_ways}
 use Rattle.answers.specs.declared.refusal.Refusal.{Refusal}
 use Rattle.backplane.specs.Meaning.{Value}
@@ -65,7 +65,7 @@ module _ (w : history.World) (v : Value) (conf : w.configuration ≡ v.configura
     pub lays : 64 ≤ c.room → FineBelow v.configuration.counts.slots slots → new ≡ laid (answer_to v slots counts k.memory.flags w.identity x (hosts c.host)) old
     pub hosts_now : (h : ℕ) → h < 16 → hosts_of k'.hosts h ≡ cond (eqb h c.host) (on_host x (hosts h)) (hosts h)
     pub slots_now : (j : ℕ) → j < 14 → slots_of k'.memory.table j ≡ slots_by (order_in x) slots j
-    pub counts_now : k'.memory.table.counts ≡ k.memory.table.counts
+    pub counts_now : counts_of k'.memory.table ≡ counts
     pub flags_now : k'.memory.flags ≡ flags_by (order_in x) k.memory.flags
     pub does : v' ≡ value_by (order_in x) (slots_of k'.memory.table) v
     pub still : k'.powered ≡ k.powered
@@ -79,14 +79,13 @@ module _ (w : history.World) (v : Value) (conf : w.configuration ≡ v.configura
       let q = same_verdict w v conf slots counts hosts k.memory.flags s few t.1 c in
       let a : answer_to v slots counts k.memory.flags w.identity told (hosts c.host) ≡ replied w s c
       = same_answer w v conf slots counts hosts k.memory.flags s few t.1 c adm.host told ∙ sym (ap (λ (y : Verdict). reply w y (s.hosts c.host) s.parts s.rest) q) in
-      let n : counts_of k'.memory.table ≡ counts = ap {B = ℕ → ℕ} (λ (xs : List ℕ) (j : ℕ). get_or xs j 0) f.counts_now in
       record {
         says = f.says adm.room fine ∙ ap result_of a;
         lays = f.lays adm.room fine ∙ ap (λ (y : history.Answer). laid y old) a;
         ties = (
           f.still ∙ on,
           recast _ v' (slots_of k'.memory.table) counts (counts_of k'.memory.table) (hosts_of k'.hosts) _ k'.memory.flags _ (commanded w s c)
-              f.does n f.flags_now (by_same w v conf slots counts hosts k.memory.flags s few t.1 c told q)
+              f.does f.counts_now f.flags_now (by_same w v conf slots counts hosts k.memory.flags s few t.1 c told q)
               (settled_tied w v conf slots counts hosts k.memory.flags s few t.1 c (slots_of k'.memory.table) (hosts_of k'.hosts) (hosts c.host).attention f.slots_now f.hosts_now),
         );
       }

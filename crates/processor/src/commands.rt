@@ -31,7 +31,7 @@ impl State {
         ensures lays { 64 ≤ length buffer.old → FineBelow (B.Backplane.value b.old).configuration.counts.slots (slots_of self.old.memory.table) → buffer.new ≡ laid (answer_to (B.Backplane.value b.old) (slots_of self.old.memory.table) (counts_of self.old.memory.table) self.old.memory.flags self.old.identity (verdict_as verdict.entry) (hosts_of self.old.hosts host)) buffer.old }
         ensures hosts { (k : ℕ) → k < 16 → hosts_of self.new.hosts k ≡ (if nat_eq k host then on_host (verdict_as verdict.entry) (hosts_of self.old.hosts k) else hosts_of self.old.hosts k) }
         ensures slots { (k : ℕ) → k < 14 → slots_of self.new.memory.table k ≡ slots_by (order_in (verdict_as verdict.entry)) (slots_of self.old.memory.table) k }
-        ensures counts { self.new.memory.table.counts ≡ self.old.memory.table.counts }
+        ensures counts { counts_of self.new.memory.table ≡ counts_of self.old.memory.table }
         ensures flags { self.new.memory.flags ≡ flags_by (order_in (verdict_as verdict.entry)) self.old.memory.flags }
         ensures does { B.Backplane.value b.new ≡ value_by (order_in (verdict_as verdict.entry)) (slots_of self.new.memory.table) (B.Backplane.value b.old) }
         ensures rest { (self.new.powered ≡ self.old.powered) × (self.new.identity ≡ self.old.identity) }

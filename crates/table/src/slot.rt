@@ -21,23 +21,35 @@ pub struct Slot {
     pub identify: bool,
 }
 
+// The record without flags.
+const NO_FLAGS: Row = Row {
+    flags: 0x00,
+    more: 0x00,
+    last: 0x00,
+};
+
 // The record with Unconfigured set.
 fn unconfigured(row: Row) -> Row
     ensures { result ≡ unconfigured row }
 {
-    let flags = row.flags;
-    Row {
-        flags: if (flags >> 7) % 2 == 1 {
-            flags
-        } else {
-            flags + 0x80
-        },
-        more: row.more,
-        last: row.last,
+    if (row.flags >> 7) % 2 == 1 {
+        row
+    } else {
+        Row {
+            flags: row.flags + 0x80,
+            ..row
+        }
     }
 }
 
 impl Slot {
+    // A slot without a drive.
+    pub(crate) const EMPTY: Slot = Slot {
+        row: NO_FLAGS,
+        state: PhysicalState::EmptyReady,
+        identify: false,
+    };
+
     // A slot at power-on, with a drive or without.
     pub fn first(present: bool) -> Slot
         ensures { slot_as result ≡ first_slot present }
@@ -46,22 +58,13 @@ impl Slot {
             Slot {
                 row: Row {
                     flags: 0x80,
-                    more: 0x00,
-                    last: 0x00,
+                    ..NO_FLAGS
                 },
                 state: PhysicalState::InsertedPrepared,
                 identify: false,
             }
         } else {
-            Slot {
-                row: Row {
-                    flags: 0x00,
-                    more: 0x00,
-                    last: 0x00,
-                },
-                state: PhysicalState::EmptyReady,
-                identify: false,
-            }
+            Slot::EMPTY
         }
     }
 
@@ -104,7 +107,7 @@ impl Slot {
             (false, true) => Slot {
                 row: unconfigured(self.row),
                 state: self.state.after(SlotEvent::Insertion),
-                identify: self.identify,
+                ..self
             },
             _ => self,
         }
@@ -117,14 +120,14 @@ impl Slot {
         match operation {
             Operation::Idle => self,
             Operation::Prepare => Slot {
-                row: self.row,
                 state: self.state.after(SlotEvent::Prepare),
                 identify: false,
+                ..self
             },
             Operation::Release => Slot {
-                row: self.row,
                 state: self.state.after(SlotEvent::Release),
                 identify: false,
+                ..self
             },
             Operation::Identify => Slot {
                 identify: true,

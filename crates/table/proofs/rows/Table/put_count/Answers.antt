@@ -1,0 +1,28 @@
+use Rattle.std.proofs.Common.{◌≡◌, ◌<◌, length, refl, arith, rules}
+use Rattle.history.proofs.Tables.{set_at}
+use Rattle.table.specs.Entries.{entry_at, vacant}
+use Rattle.table.specs.Rows.{slot_as}
+use Rattle.table.specs.Table.{counts_of, slots_of}
+use Rattle.table.specs.declared.rows.Entry.{Entry}
+use Rattle.table.proofs.Records.{fine_in, kept_by_set, records_set}
+use Rattle.table.proofs.rows.Table.put_count.Goals as goal
+
+pub invariant_of-self : goal.invariant_of-self
+unfolding slots_of
+invariant_of-self c =
+    let es = c.args.self.now.entries in
+    let n : length es ≡ 14 = search rules in
+    let m : c.args.k < 14 = search rules in
+    record { records = records_set es c.args.k _ (omega arith) c.args.self.now.records (fine_in c.args.self.now c.args.k) }
+
+pub returns-then-k-lt14 : goal.returns-then-k-lt14
+unfolding slots_of counts_of
+returns-then-k-lt14 c =
+    let es = c.args.self.now.entries in
+    let n : length es ≡ 14 = search rules in
+    let m : c.args.k < 14 = search rules in
+    let e : Entry = record { slot = (entry_at es c.args.k).slot; count = c.args.count } in
+    record {
+      counts = λ j _. set_at (λ x. x.count) es c.args.k j e vacant (omega arith);
+      slots = λ i j. kept_by_set es c.args.k e (omega arith) (λ x. slot_as x.slot) refl j i;
+    }
