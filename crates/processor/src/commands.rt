@@ -15,6 +15,7 @@ use crate::state::State;
 use answers::refusal::Refusal;
 use backplane::interface::Backplane;
 use cdb::Command;
+use driving::memory::obey;
 use replies::reply::{Ended, reply};
 use verdicts::{Verdict, judge};
 
@@ -47,7 +48,7 @@ impl State {
         );
         self.hosts.settle(host, verdict);
         if let Verdict::Obey(order) = verdict {
-            self.memory.obey(b, order);
+            obey(&mut self.memory, b, order);
         }
         ended
     }

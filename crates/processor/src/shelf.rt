@@ -9,9 +9,9 @@ use answers::refusal::Refusal;
 use backplane::configuration::Configuration;
 use backplane::interface::Backplane;
 use backplane::places::Output;
-use driving::memory::Memory;
 use hosts::Hosts;
 use replies::reply::Ended;
+use table::memory::Memory;
 use table::rows::Table;
 
 #[derive(Drop)]

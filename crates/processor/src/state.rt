@@ -1,6 +1,6 @@
 // What a shelf keeps besides its backplane.
-use driving::memory::Memory;
 use hosts::Hosts;
+use table::memory::Memory;
 
 #[derive(Clone, Copy)]
 pub struct State {
