@@ -10,29 +10,27 @@ use backplane::places::{Input, Output};
 use enclosure::codes::{FanCode, SupplyCode};
 use enclosure::conditions::Condition;
 use parts::kinds::PlainByte;
+use std::array;
 
 // The condition at an input, which is unknown where there is none.
 fn condition(number: Option<u8>) -> Condition
     ensures { result ≡ condition_at number }
 {
-    match number {
-        Some(number) => Condition::try_from(number).unwrap_or(Condition::Unknown),
-        None => Condition::Unknown,
-    }
+    number
+        .and_then(|number| Condition::try_from(number).ok())
+        .unwrap_or(Condition::Unknown)
 }
 
 // The code of a fan.
 fn fan_code<B: Backplane>(b: &B, k: usize) -> FanCode
-    requires { k < (B.Backplane.value b.now).configuration.counts.fans }
-    ensures { result ≡ fan_of ((B.Backplane.value b.now).inputs.fan k) }
+    ensures { k < (B.Backplane.value b.now).configuration.counts.fans → result ≡ fan_of ((B.Backplane.value b.now).inputs.fan k) }
 {
     FanCode::from(condition(b.input(Input::Fan(k))))
 }
 
 // The code of a supply.
 fn supply_code<B: Backplane>(b: &B, k: usize) -> SupplyCode
-    requires { k < (B.Backplane.value b.now).configuration.counts.supplies }
-    ensures { result ≡ supply_of ((B.Backplane.value b.now).inputs.supply k) ((B.Backplane.value b.now).outputs (Switch k) == 1) }
+    ensures { k < (B.Backplane.value b.now).configuration.counts.supplies → result ≡ supply_of ((B.Backplane.value b.now).inputs.supply k) ((B.Backplane.value b.now).outputs (Switch k) == 1) }
 {
     let on = b.output(Output::Supply(k)) == Some(1);
     SupplyCode::of(condition(b.input(Input::Supply(k))), on)
@@ -40,16 +38,14 @@ fn supply_code<B: Backplane>(b: &B, k: usize) -> SupplyCode
 
 // The byte of a sensor.
 fn temperature<B: Backplane>(b: &B, k: usize) -> PlainByte
-    requires { k < (B.Backplane.value b.now).configuration.counts.sensors }
-    ensures { result ≡ record { 0 = (B.Backplane.value b.now).inputs.temperature k } }
+    ensures { k < (B.Backplane.value b.now).configuration.counts.sensors → result ≡ record { 0 = (B.Backplane.value b.now).inputs.temperature k } }
 {
     PlainByte(b.input(Input::Temperature(k)).unwrap_or(0))
 }
 
 // An over-temperature flag.
 fn is_hot<B: Backplane>(b: &B, k: usize) -> bool
-    requires { k < (B.Backplane.value b.now).configuration.counts.sensors + (B.Backplane.value b.now).configuration.counts.thermostats }
-    ensures { result ≡ (B.Backplane.value b.now).inputs.hot k }
+    ensures { k < (B.Backplane.value b.now).configuration.counts.sensors + (B.Backplane.value b.now).configuration.counts.thermostats → result ≡ (B.Backplane.value b.now).inputs.hot k }
 {
     b.input(Input::OverTemperature(k)) == Some(1)
 }
@@ -58,55 +54,33 @@ fn is_hot<B: Backplane>(b: &B, k: usize) -> bool
 pub fn fan_codes<B: Backplane>(b: &B) -> [FanCode; 16]
     ensures { take (B.Backplane.value b.now).configuration.counts.fans result ≡ listed (λ k. fan_of ((B.Backplane.value b.now).inputs.fan k)) (B.Backplane.value b.now).configuration.counts.fans }
 {
-    let mut codes = [FanCode::Unknown; 16];
-    for k in 0..b.configuration().counts.fans {
-        codes[k as usize] = fan_code(b, k as usize);
-    }
-    codes
+    array::from_fn(|k| fan_code(b, k))
 }
 
 // The codes of the supplies.
 pub fn supply_codes<B: Backplane>(b: &B) -> [SupplyCode; 8]
     ensures { take (B.Backplane.value b.now).configuration.counts.supplies result ≡ listed (λ k. supply_of ((B.Backplane.value b.now).inputs.supply k) ((B.Backplane.value b.now).outputs (Switch k) == 1)) (B.Backplane.value b.now).configuration.counts.supplies }
 {
-    let mut codes = [SupplyCode::Unknown; 8];
-    for k in 0..b.configuration().counts.supplies {
-        codes[k as usize] = supply_code(b, k as usize);
-    }
-    codes
+    array::from_fn(|k| supply_code(b, k))
 }
 
 // The SCSI IDs of the slots.
 pub fn ids<B: Backplane>(b: &B) -> [PlainByte; 14]
     ensures { take (B.Backplane.value b.now).configuration.counts.slots result ≡ listed (λ k. record { 0 = slice_index (B.Backplane.value b.now).configuration.ids k }) (B.Backplane.value b.now).configuration.counts.slots }
 {
-    let configuration = b.configuration();
-    let mut bytes = [PlainByte(0); 14];
-    for k in 0..configuration.counts.slots {
-        bytes[k as usize] = PlainByte(configuration.ids[k as usize]);
-    }
-    bytes
+    b.configuration().ids.map(PlainByte)
 }
 
 // The bytes of the sensors.
 pub fn temperatures<B: Backplane>(b: &B) -> [PlainByte; 15]
     ensures { take (B.Backplane.value b.now).configuration.counts.sensors result ≡ listed (λ k. record { 0 = (B.Backplane.value b.now).inputs.temperature k }) (B.Backplane.value b.now).configuration.counts.sensors }
 {
-    let mut bytes = [PlainByte(0); 15];
-    for k in 0..b.configuration().counts.sensors {
-        bytes[k as usize] = temperature(b, k as usize);
-    }
-    bytes
+    array::from_fn(|k| temperature(b, k))
 }
 
 // The over-temperature flags, of the sensors and then of the thermostats.
 pub fn over_temperature<B: Backplane>(b: &B) -> [bool; 30]
     ensures { take ((B.Backplane.value b.now).configuration.counts.sensors + (B.Backplane.value b.now).configuration.counts.thermostats) result ≡ listed (λ k. (B.Backplane.value b.now).inputs.hot k) ((B.Backplane.value b.now).configuration.counts.sensors + (B.Backplane.value b.now).configuration.counts.thermostats) }
 {
-    let counts = b.configuration().counts;
-    let mut flags = [false; 30];
-    for k in 0..counts.sensors + counts.thermostats {
-        flags[k as usize] = is_hot(b, k as usize);
-    }
-    flags
+    array::from_fn(|k| is_hot(b, k))
 }

@@ -4,25 +4,20 @@ ghost use Rattle.history.specs.Kept.{Fine};
 ghost use Rattle.history.specs.Replies.{listed, slot_bytes};
 ghost use Rattle.parts.specs.Laid.{slot_laid};
 ghost use Rattle.std.specs.List.{flat_map};
-ghost use Rattle.table.specs.Rows.{slot_as};
 ghost use Rattle.table.specs.Table.{counts_of, slots_of};
 
 use enclosure::record::SlotRecord;
 use enclosure::record::rows::Row;
 use enclosure::slots::PhysicalState;
 use parts::kinds::{InsertionCount, Slot as SlotShown};
+use std::array;
 use table::rows::Table;
-use table::slot::Slot;
 
 // The insertion counts.
 pub fn insertion_counts(table: &Table) -> [InsertionCount; 14]
     ensures { result ≡ listed (λ k. record { 0 = counts_of table.now k }) 14 }
 {
-    let mut counts = [InsertionCount(0); 14];
-    for k in 0..14 {
-        counts[k] = InsertionCount(table.count(k));
-    }
-    counts
+    array::from_fn(|k| InsertionCount(table.count(k)))
 }
 
 // A slot without flags, empty and ready.
@@ -41,10 +36,11 @@ fn blank() -> SlotShown {
     }
 }
 
-// A slot as the slot page shows it; one whose row is no record is shown blank.
-fn shown(slot: Slot) -> SlotShown
-    ensures { Fine slot.row → slot_laid result ≡ slot_bytes (slot_as slot) }
+// Slot `k` as the slot page shows it; one whose row is no record is shown blank.
+fn shown(table: &Table, k: usize) -> SlotShown
+    ensures { Fine (slots_of table.now k).row → slot_laid result ≡ slot_bytes (slots_of table.now k) }
 {
+    let slot = table.slot(k);
     match SlotRecord::try_from(slot.row) {
         Ok(record) => SlotShown {
             record,
@@ -58,9 +54,5 @@ fn shown(slot: Slot) -> SlotShown
 pub fn slots_shown(table: &Table) -> [SlotShown; 14]
     ensures { (n : ℕ) → n ≤ 14 → ((k : ℕ) → k < n → Fine (slots_of table.now k).row) → flat_map slot_laid (take n result) ≡ flat_map slot_bytes (listed (slots_of table.now) n) }
 {
-    let mut slots = [blank(); 14];
-    for k in 0..14 {
-        slots[k] = shown(table.slot(k));
-    }
-    slots
+    array::from_fn(|k| shown(table, k))
 }

@@ -1,18 +1,9 @@
-use Rattle.std.proofs.Common.{◌≡◌, ◌≤◌, length, ap, ◌∙◌, arith}
-use Rattle.std.proofs.lemmas.List.{length-set}
-use Rattle.backplane.specs.declared.configuration.Configuration.{Configuration}
+use Rattle.std.proofs.Common.{rules}
 use Rattle.enclosure.specs.Conditions.{fan_of}
-use Rattle.gathering.proofs.Gathered.{gathered_more}
+use Rattle.gathering.proofs.Gathered.{gathered}
 use Rattle.gathering.proofs.inputs.fan_codes.Goals as goal
 
-pub loop-k-preserved : goal.loop-k-preserved
-loop-k-preserved g c =
+pub returns : goal.returns
+returns g c =
     let v = g.B.Backplane.value c.args.b.now in
-    let n : length c.loop-k.codes ≡ 16 = c.loop-k.invariant.1 in
-    let few = g.B.Backplane.bounded c.args.b.now in
-    let m : v.configuration.counts.fans ≤ 16 = few.fans in
-    let e = ap (λ (p : Configuration). p.counts.fans) c.configuration-k-end.ensures in
-    let l = c.loop-k-test.true in (
-      gathered_more (λ k. fan_of (v.inputs.fan k)) c.loop-k.codes c.loop-k.k _ (omega arith) c.loop-k.invariant.0 c.fan_code.ensures,
-      length-set c.loop-k.codes c.loop-k.k _ ∙ c.loop-k.invariant.1,
-    )
+    gathered _ _ (λ k. fan_of (v.inputs.fan k)) _ _ _ c.from_fn.ensures.items (g.B.Backplane.bounded c.args.b.now).fans (λ k y q w. (search rules, λ l. search rules))

@@ -1,17 +1,9 @@
-use Rattle.std.proofs.Common.{◌≡◌, ◌+◌, ◌≤◌, length, ap, ◌∙◌, arith}
-use Rattle.std.proofs.lemmas.List.{length-set}
-use Rattle.backplane.specs.declared.configuration.Configuration.{Configuration}
-use Rattle.gathering.proofs.Gathered.{gathered_more}
+use Rattle.std.proofs.Common.{arith, rules}
+use Rattle.gathering.proofs.Gathered.{gathered}
 use Rattle.gathering.proofs.inputs.over_temperature.Goals as goal
 
-pub loop-k-preserved : goal.loop-k-preserved
-loop-k-preserved g c =
+pub returns : goal.returns
+returns g c =
     let v = g.B.Backplane.value c.args.b.now in
-    let n : length c.loop-k.flags ≡ 30 = c.loop-k.invariant.1 in
     let few = g.B.Backplane.bounded c.args.b.now in
-    let m : v.configuration.counts.sensors + v.configuration.counts.thermostats ≤ 30 = omega (arith, few.sensors, few.thermostats) in
-    let e = ap (λ (p : Configuration). p.counts.sensors + p.counts.thermostats) c.configuration.ensures in
-    let l = c.loop-k-test.true in (
-      gathered_more (λ k. v.inputs.hot k) c.loop-k.flags c.loop-k.k _ (omega arith) c.loop-k.invariant.0 c.is_hot.ensures,
-      length-set c.loop-k.flags c.loop-k.k _ ∙ c.loop-k.invariant.1,
-    )
+    gathered _ _ (λ k. v.inputs.hot k) _ _ _ c.from_fn.ensures.items (omega (arith, few.sensors, few.thermostats)) (λ k y q w. (search rules, λ l. search rules))
