@@ -1,8 +1,7 @@
 -- The words of a line.
 use Rattle.std.specs.Prelude.{◌≡◌, ℕ, ◌<◌, Bool, true, false, cond, not, ◌||◌, List, [], ◌∷◌, ◌++◌, length, Some, None, All, filter, Option, ◌==◌}
+use Rattle.std.specs.List.{before_first}
 use Rattle.words.specs.declared.Words.{Words}
-use Rattle.words.specs.declared.Part.{Part}
-use Rattle.words.specs.declared.Part.TheVariants.{Line, Code, Gap, Word}
 
 -- A blank is a space, a tab or a carriage return.
 abbrev pub blank : ℕ → Bool
@@ -16,31 +15,19 @@ comment c = c == 35
 abbrev pub newline : ℕ → Bool
 newline c = c == 10
 
--- What a part of a text is made of: a line, what stands before its comment, blanks, or a word.
-abbrev pub within : Part → ℕ → Bool
-within Line c = not (newline c)
-within Code c = not (comment c)
-within Gap c = blank c
-within Word c = not (blank c)
-
--- The longest front of a text whose bytes all pass a test.
-abbrev pub front : (ℕ → Bool) → List ℕ → List ℕ
-front test [] = []
-front test (c ∷ cs) = cond (test c) (c ∷ front test cs) []
-
 -- What stands before the first newline.
 abbrev pub first_line : List ℕ → List ℕ
-first_line text = front (within Line) text
+first_line text = before_first newline text
 
 -- The words of a text with no comment: one begins at each byte that is no blank and comes first or after a blank,
 -- and it runs up to the next blank; `inside` says that the byte before is no blank.
 abbrev pub pieces : Bool → List ℕ → List (List ℕ)
 pieces inside [] = []
-pieces inside (c ∷ cs) = cond (blank c) (pieces false cs) (cond inside (pieces true cs) (front (within Word) (c ∷ cs) ∷ pieces true cs))
+pieces inside (c ∷ cs) = cond (blank c) (pieces false cs) (cond inside (pieces true cs) (before_first blank (c ∷ cs) ∷ pieces true cs))
 
 -- The words of a line: those that stand before its first `#`.
 abbrev pub words : List ℕ → List (List ℕ)
-words line = pieces false (front (within Code) line)
+words line = pieces false (before_first comment line)
 
 -- The words that are still to come.
 abbrev pub left : Words → List (List ℕ)

@@ -1,42 +1,27 @@
 // The words of a line, one after another. Blanks part them, and a `#` starts a comment.
 #![tactic(auto)]
 
-ghost use Rattle.std.specs.Prelude.{◌≡◌, ℕ, true, false, List, ◌++◌, length, All};
+ghost use Rattle.std.specs.Prelude.{◌≡◌, ℕ, Bool, true, false, List, ◌++◌, All};
+ghost use Rattle.std.specs.Fn.{FnReturnsAt};
+ghost use Rattle.std.specs.List.{before_first};
 ghost use Rattle.std.specs.Option.{option_map};
-ghost use Rattle.words.specs.Words.{blank, first_line, within, front, pieces, words, left, taken, joined_by, IsWord};
+ghost use Rattle.words.specs.Words.{blank, first_line, pieces, words, left, taken, joined_by, IsWord};
 
-// A part of a text: a line, what stands before its comment, the blanks between words, a word.
-#[derive(Clone, Copy)]
-enum Part {
-    Line,
-    Code,
-    Gap,
-    Word,
+// Whether a byte parts words.
+fn is_blank(c: u8) -> bool
+    ensures { result ≡ blank c }
+{
+    matches!(c, b' ' | b'\t' | b'\r')
 }
 
-// Whether a byte belongs to `part`.
-fn belongs(part: Part, c: u8) -> bool
-    ensures { result ≡ within part c }
+// What stands before the first byte of `text` that `stops`, and the rest, which begins with it.
+fn split_before<F: Fn(&u8) -> bool>(text: &[u8], stops: F) -> (&[u8], &[u8])
+    requires { F.IsAlwaysCallable stops }
+    ensures front { (test : ℕ → Bool) → ((x : ℕ) (r : Bool) → FnReturnsAt F.Fn stops x r → r ≡ test x) → result.0.now ≡ before_first test text.now }
+    ensures whole { text.now ≡ result.0.now ++ result.1.now }
 {
-    let blank = c == b' ' || c == b'\t' || c == b'\r';
-    match part {
-        Part::Line => c != b'\n',
-        Part::Code => c != b'#',
-        Part::Gap => blank,
-        Part::Word => !blank,
-    }
-}
-
-// How many bytes at the front of `text` belong to `part`.
-fn span(part: Part, text: &[u8]) -> usize
-    ensures { result ≡ length (front (within part) text.now) }
-{
-    for (i, c) in text.iter().enumerate() {
-        if !belongs(part, *c) {
-            return i;
-        }
-    }
-    text.len()
+    let end = text.iter().position(stops).unwrap_or(text.len());
+    text.split_at(end)
 }
 
 // What stands before the first newline of `text`, and the rest, which begins with it.
@@ -44,15 +29,15 @@ pub fn split_line(text: &[u8]) -> (&[u8], &[u8])
     ensures line { result.0.now ≡ first_line text.now }
     ensures rest { text.now ≡ result.0.now ++ result.1.now }
 {
-    text.split_at(span(Part::Line, text))
+    split_before(text, |c| *c == b'\n')
 }
 
 // The first word of `text`, which has no comment, and what follows it.
 fn cut(text: &[u8]) -> (Option<&[u8]>, &[u8])
     ensures { (option_map (λ x. x.now) result.0, pieces false result.1.now) ≡ taken (pieces false text.now) }
 {
-    let (_, rest) = text.split_at(span(Part::Gap, text));
-    let (word, rest) = rest.split_at(span(Part::Word, rest));
+    let (_, rest) = split_before(text, |c| !is_blank(*c));
+    let (word, rest) = split_before(rest, |c| is_blank(*c));
     if word.is_empty() {
         (None, rest)
     } else {
@@ -72,7 +57,7 @@ impl<'a> Words<'a> {
         ensures all { left result ≡ words line.now }
         ensures back { (b : ℕ) (ws : List (List ℕ)) → blank b ≡ true → All IsWord ws → line.now ≡ joined_by b ws → left result ≡ ws }
     {
-        let (rest, _) = line.split_at(span(Part::Code, line));
+        let (rest, _) = split_before(line, |c| *c == b'#');
         Words { rest }
     }
 
