@@ -3,6 +3,7 @@
 
 ghost use Rattle.std.specs.Prelude.{◌≡◌, ℕ, Bool, true, false, List, ◌++◌, All};
 ghost use Rattle.std.specs.Fn.{FnReturnsAt};
+ghost use Rattle.std.specs.Iterator.{item_count};
 ghost use Rattle.std.specs.List.{before_first};
 ghost use Rattle.std.specs.Option.{option_map};
 ghost use Rattle.words.specs.Words.{blank, first_line, pieces, words, left, taken, joined_by, IsWord};
@@ -60,11 +61,17 @@ impl<'a> Words<'a> {
         let (rest, _) = split_before(line, |c| *c == b'#');
         Words { rest }
     }
+}
+
+impl<'a> Iterator for Words<'a> {
+    type Item = &'a [u8];
+
+    ghost next_gives = { λ s r t. (option_map (λ x. x.now) r, left t) ≡ taken (left s) };
+
+    ghost remaining = { item_count left };
 
     // Takes the first word that is left, if there is one.
-    pub fn next(&mut self) -> Option<&'a [u8]>
-        ensures { (option_map (λ x. x.now) result, left self.new) ≡ taken (left self.old) }
-    {
+    fn next(&mut self) -> Option<&'a [u8]> {
         let (word, rest) = cut(self.rest);
         self.rest = rest;
         word
