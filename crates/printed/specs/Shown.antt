@@ -2,8 +2,6 @@
 use Rattle.std.specs.Prelude.{ℕ, ◌/◌, ◌%◌, Bool, cond, not, ◌&&◌, List, [], ◌∷◌, ◌++◌, length, take, ◌==◌, nat_le, nat_lt}
 use Rattle.std.specs.Char.{digit_char}
 use Rattle.std.specs.List.{flat_map}
-use Rattle.printed.specs.declared.Form.{Form}
-use Rattle.printed.specs.declared.Form.TheVariants.{Blank, Mark}
 
 -- A byte as two hex digits in lower case.
 abbrev pub pair : ℕ → List ℕ
@@ -20,11 +18,6 @@ mark b = cond (safe b) (b ∷ []) (92 ∷ 120 ∷ pair b)
 -- A byte as two digits after a blank.
 abbrev pub after_blank : ℕ → List ℕ
 after_blank b = 32 ∷ pair b
-
--- A byte in one of two forms: two digits after a blank, or a mark.
-abbrev pub formed : Form → ℕ → List ℕ
-formed Blank b = after_blank b
-formed Mark b = mark b
 
 -- Bytes as two digits each, with one blank between each two, and `-` for none.
 abbrev pub spaced : List ℕ → List ℕ

@@ -1,68 +1,23 @@
 // Bytes as they are written.
 #![tactic(auto)]
 
-ghost use Rattle.std.specs.Prelude.{◌≡◌, ◌<◌, ◌++◌, Some};
-ghost use Rattle.std.specs.Char.{digit_char};
-ghost use Rattle.std.specs.Fmt.{WritesOnOk};
-ghost use Rattle.std.specs.List.{flat_map};
-ghost use Rattle.printed.specs.Shown.{pair, safe, formed, spaced, quoted};
+ghost use Rattle.std.specs.Prelude.{◌≡◌, Some};
+ghost use Rattle.printed.specs.Shown.{pair, mark, safe, spaced, quoted};
 
 use std::fmt;
 
-// A hex digit in lower case.
-fn letter(d: u8) -> char
-    requires { d < 16 }
-    ensures value { result ≡ digit_char d }
-    ensures ascii { result < 128 }
-{
-    if d < 10 {
-        char::from(b'0' + d)
-    } else {
-        char::from(b'a' + (d - 10))
-    }
-}
-
-// Writes a byte as two hex digits, after `before`.
-fn write_hex<W: fmt::Write>(f: &mut fmt::Formatter<W>, before: &str, b: u8) -> fmt::Result
-    ensures { WritesOnOk W.write_str_gives f.old result (before.now ++ pair b) f.new }
-{
-    f.write_str(before)?;
-    f.write_char(letter(b / 16))?;
-    f.write_char(letter(b % 16))
-}
-
-// How a byte is written: as two digits after a blank, or as itself where that is safe.
+// Writes a byte as two hex digits.
 #[derive(Clone, Copy)]
-enum Form {
-    Blank,
-    Mark,
-}
+struct Pair(u8);
 
-// Whether a byte is written as itself.
-fn is_safe(b: u8) -> bool
-    ensures { result ≡ safe b }
-{
-    b >= 0x21 && b <= 0x7e && b != b'\\' && b != b'`'
-}
+impl fmt::Display for Pair {
+    ghost output = { λ x. Some (pair x.0) };
 
-fn write_byte<W: fmt::Write>(f: &mut fmt::Formatter<W>, form: Form, b: u8) -> fmt::Result
-    ensures { WritesOnOk W.write_str_gives f.old result (formed form b) f.new }
-{
-    match form {
-        Form::Blank => write_hex(f, " ", b),
-        Form::Mark if is_safe(b) => f.write_char(char::from(b)),
-        Form::Mark => write_hex(f, "\\x", b),
+    #[tactic(auto, using(std::proofs::lemmas::Fmt::hex_byte))]
+    fn fmt<W: fmt::Write>(&self, f: &mut fmt::Formatter<W>) -> fmt::Result {
+        let b = self.0;
+        write!(f, "{b:02x}")
     }
-}
-
-// Writes each byte in `form`.
-fn write_all<W: fmt::Write>(f: &mut fmt::Formatter<W>, form: Form, bytes: &[u8]) -> fmt::Result
-    ensures { WritesOnOk W.write_str_gives f.old result (flat_map (formed form) bytes.now) f.new }
-{
-    for b in bytes {
-        write_byte(f, form, *b)?;
-    }
-    Ok(())
 }
 
 // Writes bytes as two hex digits each, with one blank between each two, and `-` for none.
@@ -76,9 +31,36 @@ impl fmt::Display for Spaced<'_> {
         match self.0 {
             [] => f.write_str("-"),
             [first, rest @ ..] => {
-                write_hex(f, "", *first)?;
-                write_all(f, Form::Blank, rest)
+                write!(f, "{}", Pair(*first))?;
+                for b in rest {
+                    write!(f, " {}", Pair(*b))?;
+                }
+                Ok(())
             }
+        }
+    }
+}
+
+// Whether a byte is written as itself.
+fn is_safe(b: u8) -> bool
+    ensures { result ≡ safe b }
+{
+    b.is_ascii_graphic() && b != b'\\' && b != b'`'
+}
+
+// Writes a byte of a word: itself where that is safe, else `\x` and two hex digits.
+#[derive(Clone, Copy)]
+struct Mark(u8);
+
+impl fmt::Display for Mark {
+    ghost output = { λ x. Some (mark x.0) };
+
+    fn fmt<W: fmt::Write>(&self, f: &mut fmt::Formatter<W>) -> fmt::Result {
+        let b = self.0;
+        if is_safe(b) {
+            f.write_char(char::from(b))
+        } else {
+            write!(f, "\\x{}", Pair(b))
         }
     }
 }
@@ -96,11 +78,14 @@ impl fmt::Display for Quoted<'_> {
 
     fn fmt<W: fmt::Write>(&self, f: &mut fmt::Formatter<W>) -> fmt::Result {
         let word = self.0;
-        if word.len() <= MOST_SHOWN {
-            return write_all(f, Form::Mark, word);
+        let (shown, rest) = word.split_at(word.len().min(MOST_SHOWN));
+        for b in shown {
+            write!(f, "{}", Mark(*b))?;
         }
-        let (front, _) = word.split_at(MOST_SHOWN);
-        write_all(f, Form::Mark, front)?;
-        f.write_str("...")
+        if rest.is_empty() {
+            Ok(())
+        } else {
+            f.write_str("...")
+        }
     }
 }

@@ -1,24 +1,29 @@
-use Rattle.std.proofs.Common.{ℕ, true, List, [], ◌∷◌, ◌++◌, refl, arith}
+use Rattle.std.proofs.Common.{ℕ, ◌≡◌, ◌<◌, ◌≤◌, List, [], ◌∷◌, ◌++◌, length, take, ltb, sym, ap, ◌∙◌, append-nil, arith, rules}
 use Rattle.std.specs.List.{flat_map}
 use Rattle.std.proofs.Output.{has_written_append, has_written_of_eq}
-use Rattle.printed.specs.declared.Form.TheVariants.{Mark}
-use Rattle.printed.specs.Shown.{formed, quoted}
-use Rattle.printed.proofs.Printed.{quoted_short, quoted_long}
+use Rattle.std.proofs.lemmas.Bool.{cond-false, le-ltb}
+use Rattle.std.proofs.lemmas.List.{take_all}
+use Rattle.std.proofs.lemmas.Bool.Decides.{nat_tests}
+use Rattle.std.proofs.lemmas.Grind.{common_steps}
+use Rattle.printed.specs.Shown.{mark, quoted}
 use Rattle.printed.proofs.QuotedDisplay.fmt.Goals as goal
 
-pub returns-then-word-le-MOST_SHOWN-clause-writes : goal.returns-then-word-le-MOST_SHOWN-clause-writes
-returns-then-word-le-MOST_SHOWN-clause-writes g c plain ok =
-    let word = c.args.self.now.0.now in
-    has_written_of_eq g.W.Write.write_str_gives c.args.f.now (flat_map (formed Mark) word) (quoted word) c.write_all.new.f (quoted_short word c.if-word-le-MOST_SHOWN.true) (c.write_all.ensures plain ok)
+-- a short word as a whole, and the front of a long one with the dots
+quoted_short : (word front : List ℕ) (i : ℕ) → length word ≤ 40 → front ≡ take (length word) word → length front ≤ i → flat_map mark (take i front) ≡ quoted word
+quoted_short word front i h is past =
+    let whole : take (length word) word ≡ word = take_all (length word) word (omega arith) in
+    let shown : take i front ≡ take 40 word = take_all i front past ∙ is ∙ whole ∙ sym (take_all 40 word h) in
+    let no_dots = sym (cond-false (ltb 40 (length word)) (46 ∷ 46 ∷ 46 ∷ []) [] (le-ltb 40 (length word) h)) in
+    ap (flat_map mark) shown ∙ sym (append-nil (flat_map mark (take 40 word))) ∙ ap (λ l. flat_map mark (take 40 word) ++ l) no_dots
 
-pub returns-clause-writes : goal.returns-clause-writes
-returns-clause-writes g c plain ok =
-    let took = g.W.Write.write_str_gives in
-    let f = c.args.f.now in
-    let word = c.args.self.now.0.now in
-    let front = c.split_at.result.0.now in
-    let start = flat_map (formed Mark) front in
-    let dots : List ℕ = 46 ∷ 46 ∷ 46 ∷ [] in
-    let one = c.in_ok-write_all.ensures plain (refl {a = true}) in
-    let both = has_written_append took f start c.write_all-2.new.f dots c.write_str.new.self one (c.write_str.ensures.writes one.plain ok) in
-    has_written_of_eq took f (start ++ dots) (quoted word) c.write_str.new.self (quoted_long word front (omega arith) c.split_at.ensures.front) both
+quoted_long : (word front : List ℕ) (i : ℕ) → 40 < length word → front ≡ take 40 word → length front ≤ i → flat_map mark (take i front) ++ (46 ∷ 46 ∷ 46 ∷ []) ≡ quoted word
+quoted_long word front i h is past = grind (arith, nat_tests, common_steps)
+
+pub returns-then-is_empty-clause-writes : goal.returns-then-is_empty-clause-writes
+returns-then-is_empty-clause-writes g c plain ok =
+    has_written_of_eq _ _ _ _ _ (quoted_short c.args.self.now.0.now c.split_at.result.0.now c.loop-b.b-index (search rules) (search rules) (search rules)) (c.loop-b.invariant plain)
+
+pub returns-else-is_empty-clause-writes : goal.returns-else-is_empty-clause-writes
+returns-else-is_empty-clause-writes g c plain ok =
+    let one = c.loop-b.invariant plain in
+    has_written_of_eq _ _ _ _ _ (quoted_long c.args.self.now.0.now c.split_at.result.0.now c.loop-b.b-index (search rules) (search rules) (search rules)) (has_written_append _ _ _ _ _ _ one (c.write_str.ensures.writes one.plain ok))

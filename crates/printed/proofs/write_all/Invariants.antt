@@ -1,9 +1,0 @@
-use Rattle.std.proofs.Common.{take}
-use Rattle.std.specs.Fmt.{IsPlainFormatter, HasWritten}
-use Rattle.std.specs.List.{flat_map}
-use Rattle.printed.specs.Shown.{formed}
-use Rattle.printed.proofs.write_all.Given as goal
-
--- the bytes so far were written
-abbrev pub invariant-loop-b : goal.invariant-loop-b
-invariant-loop-b g l = IsPlainFormatter l.initial.f → HasWritten g.W.Write.write_str_gives l.initial.f (flat_map (formed l.form) (take l.b-index l.bytes)) l.f
