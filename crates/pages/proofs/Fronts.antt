@@ -1,7 +1,6 @@
 -- Runs laid one after another from the front of a buffer make a page.
-use Rattle.std.proofs.Common.{◌≡◌, ℕ, ◌+◌, ◌<◌, ◌≤◌, List, [], ◌++◌, length, drop, Some, None, Option, sym, refl, ap, ◌∙◌, append_assoc, zero-add}
+use Rattle.std.proofs.Common.{◌≡◌, ℕ, ◌+◌, true, false, leb, List, [], ◌++◌, length, drop, Some, None, Option, sym, refl, ap, ◌∙◌, append_assoc, zero-add}
 use Rattle.std.proofs.lemmas.List.{length-append, take_at, drop_at, drop-drop}
-use Rattle.std.proofs.lemmas.Bool.{le-leb, lt-leb}
 use Rattle.part_runs.specs.Runs.{end_within, laid_if_room, over}
 use Rattle.pages.specs.Into.{laid_front, length_within}
 
@@ -24,16 +23,15 @@ next {old} {page} {new} {front} {at} {end} bytes f e o =
     let h = f.holds in
     record { long = length-append front bytes ∙ ap (λ k. k + length bytes) f.long ∙ sym e; holds = cc }
 
--- what a laying function answers and leaves, where the page fits
-pub fitted : (page old new : List ℕ) (r : ℕ) → Front old new page r → length page ≤ length old → (Some r ≡ length_within page (length old)) × (new ≡ laid_front page old)
-fitted page old new r f l =
-    let t = le-leb (length page) (length old) l in
-    let e = f.long in
-    (rw t (ap Some (sym e)), rw t (f.holds ∙ ap (λ k. page ++ drop k old) (sym e)))
+-- what a laying function answers and leaves, where the page's length passed the test for room
+pub fitted : (page old new : List ℕ) (r n : ℕ) → length page ≡ n → true ≡ leb n (length old) → Front old new page r → (Some r ≡ length_within page (length old)) × (new ≡ laid_front page old)
+fitted page old new r n l t f =
+    let e = sym f.long ∙ l in
+    (rw (l, ← t) (ap Some e), rw (l, ← t) (f.holds ∙ ap (λ k. page ++ drop k old) e))
 
--- and where it does not
-pub unfitted : (page old : List ℕ) → length old < length page → (None ≡ length_within page (length old)) × (old ≡ laid_front page old)
-unfitted page old l = let t = lt-leb (length page) (length old) l in (rw t, rw t)
+-- and where it did not
+pub unfitted : (page old : List ℕ) (n : ℕ) → length page ≡ n → false ≡ leb n (length old) → (None ≡ length_within page (length old)) × (old ≡ laid_front page old)
+unfitted page old n l t = (rw (l, ← t), rw (l, ← t))
 
 -- a page that is one run of n bytes
 pub one_run : (bytes old new : List ℕ) (n : ℕ) (r : Option ℕ) → length bytes ≡ n → r ≡ end_within (length old) 0 n → new ≡ laid_if_room old 0 n bytes

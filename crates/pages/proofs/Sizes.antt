@@ -1,7 +1,6 @@
 -- How long the runs and the pages are.
-use Rattle.std.proofs.Common.{◌≡◌, ℕ, ◌+◌, ◌*◌, ◌<◌, ◌≤◌, true, false, leb, List, [], ◌∷◌, ◌++◌, length, sym, refl, ap, ◌∙◌, mul-one, arith}
+use Rattle.std.proofs.Common.{◌≡◌, ℕ, ◌+◌, ◌*◌, List, [], ◌∷◌, ◌++◌, length, refl, ◌∙◌, mul-one, arith}
 use Rattle.std.proofs.lemmas.List.{length-append}
-use Rattle.std.proofs.lemmas.Bool.{leb-false, leb-true}
 use Rattle.std.specs.List.{flat_map}
 use Rattle.parts.specs.Laid.{byte_laid, count_laid, fan_laid, slot_laid, supply_laid}
 use Rattle.parts.specs.declared.kinds.InsertionCount.{InsertionCount}
@@ -18,25 +17,12 @@ pub bytes_long : (xs : List PlainByte) → length (flat_map byte_laid xs) ≡ le
 bytes_long xs = narrow byte_laid (λ x. refl) xs
 
 -- a run and then plain bytes, as the test for room reckons them
-with_end_long : {X : Type 0} (laid : X → List ℕ) (w size : ℕ) → ((x : X) → length (laid x) ≡ w) → size ≡ w → (xs : List X) (end : List PlainByte)
-    → length (flat_map laid xs) + length (flat_map byte_laid end) ≡ length xs * size + length end
-with_end_long laid w size wide is xs end =
-    let j = joined_length laid w wide xs in
-    let e : length xs * size ≡ length xs * w = ap (λ k. length xs * k) is in
-    let b = bytes_long end in omega arith
-
-pub with_end_fits : {X : Type 0} (laid : X → List ℕ) (w size : ℕ) → ((x : X) → length (laid x) ≡ w) → size ≡ w → (xs : List X) (end : List PlainByte) (len : ℕ)
-    → true ≡ leb (length xs * size + length end) len → length (flat_map laid xs) + length (flat_map byte_laid end) ≤ len
-with_end_fits laid w size wide is xs end len e =
-    let l = with_end_long laid w size wide is xs end in
-    let f = leb-true _ _ (sym e) in omega arith
-
-pub with_end_short : {X : Type 0} (laid : X → List ℕ) (w size : ℕ) → ((x : X) → length (laid x) ≡ w) → size ≡ w → (xs : List X) (end : List PlainByte) (len : ℕ)
-    → false ≡ leb (length xs * size + length end) len → len < length (flat_map laid xs ++ flat_map byte_laid end)
-with_end_short laid w size wide is xs end len e =
-    let l = with_end_long laid w size wide is xs end in
+pub with_end_long : {X : Type 0} (laid : X → List ℕ) (w : ℕ) → ((x : X) → length (laid x) ≡ w) → (xs : List X) (end : List PlainByte)
+    → length (flat_map laid xs ++ flat_map byte_laid end) ≡ length xs * w + length end
+with_end_long laid w wide xs end =
     let a = length-append (flat_map laid xs) (flat_map byte_laid end) in
-    let f = leb-false _ _ (sym e) in omega arith
+    let j = joined_length laid w wide xs in
+    let b = bytes_long end in omega arith
 
 -- the runs of the status page
 pub record Long (s : Status) : Type 0 where
@@ -51,20 +37,6 @@ long s =
 
 pub status_long : (s : Status) → length (status_page s) ≡ status_size s
 status_long s = let l = long s in simp length-append (omega arith)
-
--- the runs where the page fits, and its length
-pub record Room (s : Status) (len : ℕ) : Type 0 where
-  pub runs : Long s
-  pub size : length (status_page s) ≡ status_size s
-  pub fits : status_size s ≤ len
-
-pub room : (s : Status) (len : ℕ) → true ≡ leb (status_size s) len → Room s len
-room s len e = record { runs = long s; size = status_long s; fits = leb-true (status_size s) len (sym e) }
-
-pub no_room : (s : Status) (len : ℕ) → false ≡ leb (status_size s) len → len < length (status_page s)
-no_room s len e =
-    let f = leb-false (status_size s) len (sym e) in
-    let l = status_long s in omega arith
 
 pub slots_long : (xs : List Slot) → length (slots_page xs) ≡ 4 * length xs + 1
 slots_long xs =

@@ -5,8 +5,8 @@ ghost use Rattle.pages.specs.Pages.{door_byte, shown, speaker_byte, status_page,
 ghost use Rattle.pages.specs.ReadBack.{StatusBack};
 
 use crate::heat::heat_bytes;
-use crate::runs::put_run;
 use enclosure::codes::{FanCode, SupplyCode};
+use part_runs::put_run;
 use parts::kinds::PlainByte;
 
 // What the status page shows. A lock or an alarm that is not fitted is `None`; otherwise it says whether the lock is set or the alarm sounds.

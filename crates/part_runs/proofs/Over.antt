@@ -1,11 +1,8 @@
 -- Bytes laid over a page: one after another is both at once.
-use Rattle.std.proofs.Common.{◌≡◌, ℕ, zero, suc, ◌+◌, ◌*◌, ◌<◌, ◌≤◌, List, [], ◌∷◌, ◌++◌, length, get_or, take, drop, sym, refl, ap, ◌∙◌, append_assoc, add-zero, add_assoc, mul-le-mul_right, suc-mul, add-mul, one-mul, zero-mul, arith}
-use Rattle.std.proofs.lemmas.List.{take-append-drop, length-append, length-take-le, length-drop, take_at, drop_at, drop-drop, take_more, flat_map_more, take_all}
+use Rattle.std.proofs.Common.{◌≡◌, ℕ, zero, suc, ◌+◌, ◌*◌, ◌<◌, ◌≤◌, List, [], ◌∷◌, ◌++◌, length, get_or, take, drop, sym, ap, ◌∙◌, append_assoc, add_assoc, mul-le-mul_right, suc-mul, add-mul, one-mul, zero-mul, arith}
+use Rattle.std.proofs.lemmas.List.{length-append, length-take-le, take_at, drop_at, drop-drop, take_more, flat_map_more}
 use Rattle.std.specs.List.{flat_map}
 use Rattle.part_runs.specs.Runs.{over}
-
-pub over_nil : (p : List ℕ) (at : ℕ) → over p at [] ≡ p
-over_nil p at = simp add-zero (take-append-drop at p)
 
 front : (p : List ℕ) (at : ℕ) (xs : List ℕ) → at + length xs ≤ length p → length (take at p ++ xs) ≡ at + length xs
 front p at xs h =

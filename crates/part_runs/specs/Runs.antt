@@ -1,5 +1,5 @@
 -- Runs of parts in a page.
-use Rattle.std.specs.Prelude.{ℕ, ◌+◌, ◌*◌, Bool, cond, List, ◌++◌, length, take, drop, Some, None, Option, nat_le}
+use Rattle.std.specs.Prelude.{ℕ, ◌+◌, ◌*◌, cond, List, ◌++◌, length, take, drop, Some, None, Option, nat_le}
 
 -- the page with the bytes laid over it from a place on; all else stays
 abbrev pub over : List ℕ → ℕ → List ℕ → List ℕ

@@ -1,5 +1,5 @@
 -- The bytes of a part of each kind, and the part that bytes are.
-use Rattle.std.specs.Prelude.{ℕ, ◌+◌, ◌*◌, ◌/◌, ◌%◌, cond, List, [], ◌∷◌, Some, None, Option}
+use Rattle.std.specs.Prelude.{ℕ, ◌+◌, ◌*◌, ◌/◌, ◌%◌, List, [], ◌∷◌, Some, None, Option}
 use Rattle.enclosure.specs.Codes.{fan_byte, fan_read, supply_byte, supply_read}
 use Rattle.enclosure.specs.Records.{record_of, row_of}
 use Rattle.enclosure.specs.Slots.{state_byte, state_read}

@@ -1,100 +1,75 @@
 // The kinds of part: fan, supply, slot, insertion count and plain byte.
-ghost use Rattle.std.specs.Prelude.{◌≡◌, ℕ, List, length, if◌then◌else◌, ◌==◌, nat_eq};
-ghost use Rattle.parts.specs.Laid.{byte_laid, byte_reads, count_laid, count_reads, fan_laid, fan_reads, slot_laid, slot_reads, supply_laid, supply_reads};
+ghost use Rattle.enclosure.specs.Codes.{fan_byte, fan_read, supply_byte, supply_read};
+ghost use Rattle.std.specs.Prelude.{Some};
+ghost use Rattle.parts.specs.Laid.{count_laid, count_reads, slot_laid, slot_reads};
 ghost use Rattle.std.proofs.Common.{rules};
 ghost use Rattle.parts.specs.SlotParts.{slot_back};
 
-use crate::part::Part;
+use crate::code::ByteCode;
+use crate::part::{Part, WrongWidth, fill};
 use enclosure::codes::{FanCode, SupplyCode};
 use enclosure::record::SlotRecord;
 use enclosure::record::rows::Row;
 use enclosure::slots::PhysicalState;
 
-// Copies the bytes into `out`; where it has another length, answers false and leaves it.
-fn fill(out: &mut [u8], bytes: &[u8]) -> bool
-    ensures fits { result ≡ (length out.old == length bytes.now) }
-    ensures filled { out.new ≡ (if nat_eq (length out.old) (length bytes.now) then bytes.now else out.old) }
-{
-    if out.len() != bytes.len() {
-        return false;
-    }
-    out.copy_from_slice(bytes);
-    true
-}
+// A fan is its code.
+impl ByteCode for FanCode {
+    ghost code = { fan_byte };
 
-impl Part for FanCode {
-    const WIDTH: usize = 1;
+    ghost coded = { fan_read };
 
-    ghost width = { 1 };
+    ghost returns = { Prim.search rules };
 
-    ghost laid = { fan_laid };
+    ghost alone = { Prim.search rules };
 
-    ghost reads = { fan_reads };
-
-    ghost some = { Prim.search rules };
-
-    ghost slim = { Prim.search rules };
-
-    ghost wide = { Prim.search rules };
-
-    ghost back = { Prim.search rules };
-
-    ghost only = { Prim.search rules };
-
-    ghost whole = { Prim.search rules };
-
-    fn size() -> usize {
-        Self::WIDTH
+    fn code_of(fan: FanCode) -> u8 {
+        u8::from(fan)
     }
 
-    fn lay(&self, out: &mut [u8]) -> bool {
-        let fan = u8::from(*self);
-        fill(out, &[fan])
-    }
-
-    fn read(bytes: &[u8]) -> Option<FanCode> {
-        match bytes {
-            [only] => FanCode::try_from(*only).ok(),
-            _ => None,
-        }
+    fn part_of(byte: u8) -> Option<FanCode> {
+        FanCode::try_from(byte).ok()
     }
 }
 
-impl Part for SupplyCode {
-    const WIDTH: usize = 1;
+// A supply is its code.
+impl ByteCode for SupplyCode {
+    ghost code = { supply_byte };
 
-    ghost width = { 1 };
+    ghost coded = { supply_read };
 
-    ghost laid = { supply_laid };
+    ghost returns = { Prim.search rules };
 
-    ghost reads = { supply_reads };
+    ghost alone = { Prim.search rules };
 
-    ghost some = { Prim.search rules };
-
-    ghost slim = { Prim.search rules };
-
-    ghost wide = { Prim.search rules };
-
-    ghost back = { Prim.search rules };
-
-    ghost only = { Prim.search rules };
-
-    ghost whole = { Prim.search rules };
-
-    fn size() -> usize {
-        Self::WIDTH
+    fn code_of(supply: SupplyCode) -> u8 {
+        u8::from(supply)
     }
 
-    fn lay(&self, out: &mut [u8]) -> bool {
-        let supply = u8::from(*self);
-        fill(out, &[supply])
+    fn part_of(byte: u8) -> Option<SupplyCode> {
+        SupplyCode::try_from(byte).ok()
+    }
+}
+
+// A plain byte: a SCSI ID or a temperature.
+#[derive(Clone, Copy)]
+pub struct PlainByte(pub u8);
+
+// A plain byte is itself, and any byte is one.
+impl ByteCode for PlainByte {
+    ghost code = { λ x. x.0 };
+
+    ghost coded = { λ b. Some (record { 0 = b }) };
+
+    ghost returns = { Prim.search rules };
+
+    ghost alone = { Prim.search rules };
+
+    fn code_of(plain: PlainByte) -> u8 {
+        plain.0
     }
 
-    fn read(bytes: &[u8]) -> Option<SupplyCode> {
-        match bytes {
-            [only] => SupplyCode::try_from(*only).ok(),
-            _ => None,
-        }
+    fn part_of(byte: u8) -> Option<PlainByte> {
+        Some(PlainByte(byte))
     }
 }
 
@@ -108,7 +83,7 @@ pub struct Slot {
 impl Part for Slot {
     const WIDTH: usize = 4;
 
-    ghost width = { 4 };
+    ghost WIDTH = { 4 };
 
     ghost laid = { slot_laid };
 
@@ -118,19 +93,13 @@ impl Part for Slot {
 
     ghost slim = { Prim.search rules };
 
-    ghost wide = { Prim.search rules };
-
-    ghost back = { λ x. slot_back x };
+    ghost back = { slot_back };
 
     ghost only = { Prim.search rules };
 
     ghost whole = { Prim.search rules };
 
-    fn size() -> usize {
-        Self::WIDTH
-    }
-
-    fn lay(&self, out: &mut [u8]) -> bool {
+    fn lay(&self, out: &mut [u8]) -> Result<(), WrongWidth> {
         let Row { flags, more, last } = Row::from(self.record);
         fill(out, &[flags, more, last, u8::from(self.state)])
     }
@@ -157,7 +126,7 @@ pub struct InsertionCount(pub u16);
 impl Part for InsertionCount {
     const WIDTH: usize = 2;
 
-    ghost width = { 2 };
+    ghost WIDTH = { 2 };
 
     ghost laid = { count_laid };
 
@@ -167,66 +136,19 @@ impl Part for InsertionCount {
 
     ghost slim = { Prim.search rules };
 
-    ghost wide = { Prim.search rules };
-
     ghost back = { Prim.search rules };
 
     ghost only = { Prim.search rules };
 
     ghost whole = { Prim.search rules };
 
-    fn size() -> usize {
-        Self::WIDTH
-    }
-
-    fn lay(&self, out: &mut [u8]) -> bool {
-        fill(out, &[(self.0 / 256) as u8, (self.0 % 256) as u8])
+    fn lay(&self, out: &mut [u8]) -> Result<(), WrongWidth> {
+        fill(out, &self.0.to_be_bytes())
     }
 
     fn read(bytes: &[u8]) -> Option<InsertionCount> {
         match bytes {
-            [high, low] => Some(InsertionCount(*high as u16 * 256 + *low as u16)),
-            _ => None,
-        }
-    }
-}
-
-// A plain byte: a SCSI ID or a temperature.
-#[derive(Clone, Copy)]
-pub struct PlainByte(pub u8);
-
-impl Part for PlainByte {
-    const WIDTH: usize = 1;
-
-    ghost width = { 1 };
-
-    ghost laid = { byte_laid };
-
-    ghost reads = { byte_reads };
-
-    ghost some = { Prim.search rules };
-
-    ghost slim = { Prim.search rules };
-
-    ghost wide = { Prim.search rules };
-
-    ghost back = { Prim.search rules };
-
-    ghost only = { Prim.search rules };
-
-    ghost whole = { Prim.search rules };
-
-    fn size() -> usize {
-        Self::WIDTH
-    }
-
-    fn lay(&self, out: &mut [u8]) -> bool {
-        fill(out, &[self.0])
-    }
-
-    fn read(bytes: &[u8]) -> Option<PlainByte> {
-        match bytes {
-            [only] => Some(PlainByte(*only)),
+            [high, low] => Some(InsertionCount(u16::from_be_bytes([*high, *low]))),
             _ => None,
         }
     }

@@ -1,5 +1,5 @@
 -- What the reader answers, for every configuration page, page, run and part number.
-use Rattle.std.specs.Prelude.{ℕ, ◌+◌, ◌*◌, Bool, cond, List, length, is_some, Ok, Err, Option, Result, nat_le, nat_lt, slice_index}
+use Rattle.std.specs.Prelude.{ℕ, ◌+◌, ◌*◌, cond, List, length, is_some, Ok, Err, Option, Result, nat_le, nat_lt, slice_index}
 use Rattle.enclosure.specs.Ranges.{in_range}
 use Rattle.enclosure.specs.declared.counts.PartCounts.{PartCounts}
 use Rattle.parts.specs.Laid.{fan_reads, supply_reads, slot_reads, count_reads, byte_reads}

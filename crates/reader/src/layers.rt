@@ -14,7 +14,7 @@ use parts::part::Part;
 
 // The part layer: part `number` of the run that begins at `start`.
 fn part<P: Part>(page: &[u8], start: usize, number: usize) -> Result<P, Fault>
-    ensures { result ≡ ok_or (P.Part.reads (part_bytes P.Part.width page.now start number)) NoPart }
+    ensures { result ≡ ok_or (P.Part.reads (part_bytes P.Part.WIDTH page.now start number)) NoPart }
 {
     part_of_run::<P>(page, start, number).ok_or(Fault::NoPart)
 }
@@ -27,18 +27,18 @@ fn in_run<P: Part + Drop>(
     number: usize,
 ) -> Result<Found<'_>, Fault>
     requires { start ≤ 1000 }
-    ensures { told result ≡ run_part P.Part.width P.Part.reads page.now start count number }
+    ensures { told result ≡ run_part P.Part.WIDTH P.Part.reads page.now start count number }
 {
-    let width = P::size();
-    if page.len() < start + count as usize * width {
+    let count = usize::from(count);
+    if page.len() < start + count * P::WIDTH {
         return Err(Fault::Short);
     }
-    if number >= count as usize {
+    if number >= count {
         return Err(Fault::Number);
     }
-    let _part = part::<P>(page, start, number)?;
-    let place = start + number * width;
-    let bytes = &page[place..place + width];
+    part::<P>(page, start, number)?;
+    let place = start + number * P::WIDTH;
+    let bytes = &page[place..place + P::WIDTH];
     Ok(Found { place, bytes })
 }
 
@@ -46,15 +46,16 @@ fn in_run<P: Part + Drop>(
 fn counts_of(config: &[u8]) -> Result<PartCounts, Fault>
     ensures { result ≡ counts_of config.now }
 {
-    if config.len() < 64 {
+    let Some(&[fans, supplies, slots, _, sensors, _, thermostats, ..]) = config.first_chunk::<64>()
+    else {
         return Err(Fault::Configuration);
-    }
+    };
     let counts = PartCounts {
-        fans: config[0],
-        supplies: config[1],
-        slots: config[2],
-        sensors: config[4],
-        thermostats: config[6],
+        fans,
+        supplies,
+        slots,
+        sensors,
+        thermostats,
     };
     if counts.in_range() {
         Ok(counts)
@@ -73,9 +74,9 @@ pub fn read_part<'a>(
     ensures { told result ≡ read_part config.now page.now run number }
 {
     let counts = counts_of(config)?;
-    let fans = counts.fans as usize;
-    let supplies = counts.supplies as usize;
-    let slots = counts.slots as usize;
+    let fans = usize::from(counts.fans);
+    let supplies = usize::from(counts.supplies);
+    let slots = usize::from(counts.slots);
     match run {
         Run::Fans => in_run::<FanCode>(page, 0, counts.fans, number),
         Run::Supplies => in_run::<SupplyCode>(page, fans, counts.supplies, number),
