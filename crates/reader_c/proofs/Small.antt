@@ -1,7 +1,6 @@
 -- A part that the reader hands out stands at place 200 of its page or before, and takes four bytes at most.
-use Rattle.std.proofs.Common.{◌≡◌, ℕ, ◌+◌, ◌*◌, ◌≤◌, Bool, true, false, cond, ltb, leb, List, length, drop, is_some, Ok, Err, Option, Result, sym, refl, ap, ◌∙◌, subst, arith, le-ltb, leb-false, leb-true}
+use Rattle.std.proofs.Common.{◌≡◌, ℕ, ◌+◌, ◌*◌, ◌≤◌, Bool, true, false, cond, ltb, leb, List, length, drop, is_some, Ok, Err, Option, Result, refl, arith, rules, leb-false}
 use Rattle.std.proofs.lemmas.List.{length-take}
-use Rattle.std.proofs.lemmas.Bool.{and_parts}
 use Rattle.enclosure.specs.Ranges.{in_range}
 use Rattle.enclosure.specs.declared.counts.PartCounts.{PartCounts}
 use Rattle.parts.specs.Laid.{fan_reads, supply_reads, slot_reads, count_reads, byte_reads}
@@ -11,7 +10,7 @@ use Rattle.reader.specs.declared.fault.Fault.{Fault}
 use Rattle.reader.specs.declared.fault.Run.{Run}
 use Rattle.reader.specs.declared.fault.Run.TheVariants.{Fans, Supplies, Ids, Temperatures, Slots, Counts, Unknown}
 use Rattle.reader.specs.Reads.{Handed, and_then, counts_in, read_part, run_of, run_part}
-use Rattle.reader_c.specs.Answers.{part_answer, part_number, place_answer, place_number, width_of}
+use Rattle.reader_c.specs.Answers.{part_answer, part_number, place_answer, place_number}
 
 pub record Small (h : Handed) : Type 0 where
   pub place : h.place ≤ 200
@@ -44,18 +43,7 @@ record Few (c : PartCounts) : Type 0 where
   sensors : c.sensors ≤ 15
 
 few : (c : PartCounts) → in_range c ≡ true → Few c
-few c e =
-    let a = and_parts _ _ e in
-    let b = and_parts _ _ a.1 in
-    let d = and_parts _ _ b.1 in
-    let f = and_parts _ _ d.1 in
-    let g = and_parts _ _ f.1 in
-    record {
-      fans = leb-true c.fans 16 a.0;
-      supplies = leb-true c.supplies 8 b.0;
-      slots = leb-true c.slots 14 f.0;
-      sensors = leb-true c.sensors 15 g.0;
-    }
+few c e = record { fans = search rules; supplies = search rules; slots = search rules; sensors = search rules }
 
 of_run : (page : List ℕ) (run : Run) (n : ℕ) (c : PartCounts) → Few c → Held (run_of page run n c)
 of_run page Fans n c f = in_run 1 fan_reads page 0 c.fans n (omega arith) (omega arith)
@@ -76,14 +64,11 @@ held config page run n =
     and_then_if (ltb (length config) 64) _ _ _ (λ _. tt) (λ _.
     and_then_if (in_range (counts_in config)) _ _ _ (λ e. of_run page run n (counts_in config) (few (counts_in config) e)) (λ _. tt))
 
-pub small : (config page : List ℕ) (run : Run) (n : ℕ) (h : Handed) → Ok h ≡ read_part config page run n → Small h
-small config page run n h e = subst Held (sym e) (held config page run n)
-
 -- every part has room in a buffer of four bytes or more
 pub roomy_answer : (room : ℕ) (r : Result Handed Fault) (x : ℕ) → 4 ≤ room → Held r → x ≡ part_answer room r → x ≡ place_answer r
-roomy_answer room (Ok h) x l s e = e ∙ ap (λ b. cond b 100 0) (le-ltb room (width_of h) (let w = s.width in omega arith))
+roomy_answer room (Ok h) x l s e = let w = s.width in search rules
 roomy_answer room (Err f) x l s e = e
 
 pub roomy_number : (of : Handed → ℕ) (room : ℕ) (r : Result Handed Fault) (old x : ℕ) → 4 ≤ room → Held r → x ≡ part_number of room r old → x ≡ place_number of r old
-roomy_number of room (Ok h) old x l s e = e ∙ ap (λ b. cond b old (of h)) (le-ltb room (width_of h) (let w = s.width in omega arith))
+roomy_number of room (Ok h) old x l s e = let w = s.width in search rules
 roomy_number of room (Err f) old x l s e = e

@@ -1,4 +1,5 @@
 // The reader's questions for C: numbers and slices of bytes in, a number out.
+// What C calls has C's form: a number for a run and for an answer, and places to write numbers to, in place of enums and results.
 #![tactic(auto)]
 
 ghost use Rattle.std.specs.Prelude.{◌≡◌, length};
