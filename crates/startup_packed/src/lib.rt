@@ -4,27 +4,24 @@
 ghost use Rattle.std.specs.Prelude.{◌≡◌, ℕ, length, is_ok};
 ghost use Rattle.bits.specs.Image.{bit};
 ghost use Rattle.packed.specs.Frame.{well_formed};
-ghost use Rattle.packed.specs.Layout.{fitted_with};
+ghost use Rattle.packed.specs.Layout.{fitted_over};
 ghost use Rattle.startup_packed.specs.Bits.{started_bit};
 
+use backplane::configuration::Fittings;
 use backplane::interface::Unread;
-use enclosure::counts::PartCounts;
 use packed::held::Packed;
 use startup::switch_on;
 
 // Makes a packed backplane over the image and switches it on. A frame that reads as nothing is refused, and the image is as it was.
 pub fn switch_on_packed(
-    counts: PartCounts,
-    lock: bool,
-    alarm: bool,
-    ids: &[u8],
+    fittings: Fittings,
     image: &mut [u8],
     frame: &[u8],
 ) -> Result<(), Unread>
-    ensures says { is_ok result ≡ well_formed (fitted_with counts lock alarm ids.now image.old) frame.now }
-    ensures bits { (k : ℕ) → bit image.new k ≡ started_bit (fitted_with counts lock alarm ids.now image.old) frame.now image.old k }
+    ensures says { is_ok result ≡ well_formed (fitted_over fittings.entry image.old) frame.now }
+    ensures bits { (k : ℕ) → bit image.new k ≡ started_bit (fitted_over fittings.entry image.old) frame.now image.old k }
     ensures size { length image.new ≡ length image.old }
 {
-    let mut b = Packed::new(counts, lock, alarm, ids, image);
+    let mut b = Packed::new(fittings, image);
     switch_on(&mut b, frame)
 }
