@@ -13,11 +13,7 @@ use packed::held::Packed;
 use startup::switch_on;
 
 // Makes a packed backplane over the image and switches it on. A frame that reads as nothing is refused, and the image is as it was.
-pub fn switch_on_packed(
-    fittings: Fittings,
-    image: &mut [u8],
-    frame: &[u8],
-) -> Result<(), Unread>
+pub fn switch_on_packed(fittings: Fittings, image: &mut [u8], frame: &[u8]) -> Result<(), Unread>
     ensures says { is_ok result ≡ well_formed (fitted_over fittings.entry image.old) frame.now }
     ensures bits { (k : ℕ) → bit image.new k ≡ started_bit (fitted_over fittings.entry image.old) frame.now image.old k }
     ensures size { length image.new ≡ length image.old }
