@@ -7,6 +7,7 @@ ghost use Rattle.outputs_text.specs.Outputs.{outputs_shown, seen};
 ghost use Rattle.shelf_line.specs.ShelfLine.{parts_of, shelf_of};
 ghost use Rattle.held_shelf.specs.Kept.{image_of, kept, made_shelf, outside_of, packed_outside};
 
+use backplane::configuration::Fittings;
 use outputs_text::shown::{OutputNumbers, outputs};
 use packed::held::Packed;
 use plain::held::Plain;
@@ -32,6 +33,21 @@ pub enum HeldShelf {
     Packed(PackedShelf),
 }
 
+// What a shelf with these parts is to be fitted with.
+fn fittings(parts: &ShelfParts) -> Fittings<'_>
+    ensures counts { result.counts ≡ parts.now.counts }
+    ensures lock { result.lock ≡ parts.now.lock }
+    ensures alarm { result.alarm ≡ parts.now.alarm }
+    ensures ids { result.ids.now ≡ parts.now.ids.items }
+{
+    Fittings {
+        counts: parts.counts,
+        lock: parts.lock,
+        alarm: parts.alarm,
+        ids: parts.ids.as_slice(),
+    }
+}
+
 // The outputs of a packed backplane with these parts over an image.
 fn packed_outputs(
     heap: Global,
@@ -40,8 +56,7 @@ fn packed_outputs(
 ) -> Result<OutputNumbers, AllocError>
     ensures { IfOk result (λ o. seen o ≡ outputs_shown (packed_outside (parts_of parts.now) image.old)) }
 {
-    let ids = parts.ids.as_slice();
-    let backplane = Packed::new(parts.counts, parts.lock, parts.alarm, ids, image);
+    let backplane = Packed::new(fittings(parts), image);
     outputs(heap, &backplane)
 }
 
@@ -53,8 +68,7 @@ impl HeldShelf {
         let ShelfAsked { parts, image } = asked;
         match image {
             None => {
-                let ids = parts.ids.as_slice();
-                let backplane = Plain::new(parts.counts, parts.lock, parts.alarm, ids);
+                let backplane = Plain::new(fittings(&parts));
                 HeldShelf::Plain(PlainShelf { parts, backplane })
             }
             Some(image) => HeldShelf::Packed(PackedShelf { parts, image }),
