@@ -1,4 +1,5 @@
 // Frames of every length, every condition, and refusals that leave all as it was.
+use backplane::configuration::Fittings;
 use backplane::interface::Backplane;
 use backplane::places::{Input, Output};
 use enclosure::counts::PartCounts;
@@ -19,6 +20,22 @@ const FRAME: [u8; 33] = [
     0x02, 0, 0x31, 0xf4, 255, 255, 255, 255, 255, 255, 0xf2, 255, 255, 255, 90, 91, 255, 255, 255,
     255, 255, 255, 255, 255, 255, 255, 255, 255, 255, 0x05, 255, 255, 255,
 ];
+
+// A shelf with those parts and an alarm.
+const WITH_ALARM: Fittings<'static> = Fittings {
+    counts: COUNTS,
+    lock: false,
+    alarm: true,
+    ids: &[3, 4],
+};
+
+// The same without an alarm.
+const BARE: Fittings<'static> = Fittings {
+    counts: COUNTS,
+    lock: false,
+    alarm: false,
+    ids: &[3, 4],
+};
 
 fn inputs<B: Backplane>(b: &B) -> [Option<u8>; 14] {
     [
@@ -76,7 +93,7 @@ const READ: [Option<u8>; 14] = [
 // Before the first sample all is 0; a refused frame leaves what was read.
 #[test]
 fn read_and_refused(rt: HostRuntime) {
-    let mut p = Plain::new(COUNTS, false, true, &[3, 4]);
+    let mut p = Plain::new(WITH_ALARM);
     assert_eq!(rt; inputs(&p), ZERO);
     assert!(rt; p.sample(&[0, 1, 1, 3, 4, 2, 90, 91, 1, 0, 1]).is_ok());
     assert_eq!(rt; inputs(&p), READ);
@@ -91,7 +108,7 @@ fn read_and_refused(rt: HostRuntime) {
     assert_eq!(rt; p.output(Output::Lamp(0)), Some(0));
     assert_eq!(rt; p.output(Output::Lock), None);
     let mut image = [0xff; 19];
-    let mut q = Packed::new(COUNTS, false, true, &[3, 4], &mut image);
+    let mut q = Packed::new(WITH_ALARM, &mut image);
     assert_eq!(rt; inputs(&q), ZERO);
     assert!(rt; q.sample(&FRAME).is_ok());
     assert_eq!(rt; inputs(&q), READ);
@@ -107,31 +124,37 @@ fn read_and_refused(rt: HostRuntime) {
 fn every_length(rt: HostRuntime) {
     let bytes = [0; 40];
     for n in 0..41usize {
-        let mut p = Plain::new(COUNTS, false, false, &[3, 4]);
+        let mut p = Plain::new(BARE);
         assert_eq!(rt; p.sample(&bytes[0..n]).is_ok(), n == 11);
         let mut image = [0; 19];
-        let mut q = Packed::new(COUNTS, false, false, &[3, 4], &mut image);
+        let mut q = Packed::new(BARE, &mut image);
         assert_eq!(rt; q.sample(&bytes[0..n]).is_ok(), n == 33);
     }
 }
 
-fn counts(fans: u8, supplies: u8) -> PartCounts {
-    PartCounts {
-        fans,
-        supplies,
-        slots: 1,
-        sensors: 0,
-        thermostats: 0,
+// A shelf with one slot, and some fans and supplies.
+fn one_slot(fans: u8, supplies: u8) -> Fittings<'static> {
+    Fittings {
+        counts: PartCounts {
+            fans,
+            supplies,
+            slots: 1,
+            sensors: 0,
+            thermostats: 0,
+        },
+        lock: false,
+        alarm: false,
+        ids: &[0],
     }
 }
 
 // Whether a packed frame with these two bytes of conditions, and ones in all others, reads as something.
-fn reads(counts: PartCounts, fans: u8, supplies: u8) -> bool {
+fn reads(fittings: Fittings, fans: u8, supplies: u8) -> bool {
     let mut frame = [0xff; 33];
     frame[2] = fans;
     frame[10] = supplies;
     let mut image = [0; 19];
-    let mut b = Packed::new(counts, false, false, &[0], &mut image);
+    let mut b = Packed::new(fittings, &mut image);
     b.sample(&frame).is_ok()
 }
 
@@ -141,12 +164,12 @@ fn every_condition(rt: HostRuntime) {
     for byte in 0..=255u8 {
         let low = byte % 16 <= 4;
         let high = byte / 16 <= 4;
-        assert!(rt; reads(counts(0, 0), byte, byte));
-        assert_eq!(rt; reads(counts(1, 0), byte, 0xff), low);
-        assert_eq!(rt; reads(counts(2, 0), byte, 0xff), low && high);
-        assert_eq!(rt; reads(counts(0, 1), 0xff, byte), low);
-        assert_eq!(rt; reads(counts(0, 2), 0xff, byte), low && high);
-        let mut p = Plain::new(counts(1, 1), false, false, &[0]);
+        assert!(rt; reads(one_slot(0, 0), byte, byte));
+        assert_eq!(rt; reads(one_slot(1, 0), byte, 0xff), low);
+        assert_eq!(rt; reads(one_slot(2, 0), byte, 0xff), low && high);
+        assert_eq!(rt; reads(one_slot(0, 1), 0xff, byte), low);
+        assert_eq!(rt; reads(one_slot(0, 2), 0xff, byte), low && high);
+        let mut p = Plain::new(one_slot(1, 1));
         assert_eq!(rt; p.sample(&[1, byte, 0]).is_ok(), byte <= 4);
         assert_eq!(rt;
             p.input(Input::Fan(0)),

@@ -1,50 +1,61 @@
 // Images of ones and of mixed bits, and what is written over them.
+use backplane::configuration::Fittings;
 use backplane::interface::Backplane;
 use backplane::places::Output;
 use enclosure::counts::PartCounts;
 use packed::held::Packed;
 use startup_packed::switch_on_packed;
 
-const FULL: PartCounts = PartCounts {
-    fans: 16,
-    supplies: 8,
-    slots: 14,
-    sensors: 15,
-    thermostats: 15,
+// A shelf with every part.
+const FULL: Fittings<'static> = Fittings {
+    counts: PartCounts {
+        fans: 16,
+        supplies: 8,
+        slots: 14,
+        sensors: 15,
+        thermostats: 15,
+    },
+    lock: true,
+    alarm: true,
+    ids: &[0, 1, 2, 3, 4, 5, 6, 7, 8, 9, 10, 11, 12, 15],
 };
 
-const FEW: PartCounts = PartCounts {
-    fans: 3,
-    supplies: 2,
-    slots: 1,
-    sensors: 0,
-    thermostats: 0,
+// A shelf with few parts, without lock and alarm.
+const FEW: Fittings<'static> = Fittings {
+    counts: PartCounts {
+        fans: 3,
+        supplies: 2,
+        slots: 1,
+        sensors: 0,
+        thermostats: 0,
+    },
+    lock: false,
+    alarm: false,
+    ids: &[7],
 };
 
-const IDS: [u8; 14] = [0, 1, 2, 3, 4, 5, 6, 7, 8, 9, 10, 11, 12, 15];
+// The same with a lock.
+const LOCKED: Fittings<'static> = Fittings { lock: true, ..FEW };
 
 const MIXED: u8 = 0xa6;
 
 // Whether byte `at` is `byte` and all others are `rest`.
 fn alone(image: &[u8], at: usize, byte: u8, rest: u8) -> bool {
-    let mut same = true;
-    let mut i = 0usize;
-    for b in image {
-        same &= *b == if i == at { byte } else { rest };
-        i = i.saturating_add(1);
-    }
-    same
+    image
+        .iter()
+        .enumerate()
+        .all(|(i, b)| *b == if i == at { byte } else { rest })
 }
 
 // Sets one output of a shelf with every part, and says whether it was set.
 fn set_full(image: &mut [u8], at: Output, number: u8) -> bool {
-    let mut b = Packed::new(FULL, true, true, &IDS, image);
+    let mut b = Packed::new(FULL, image);
     b.set(at, number).is_ok()
 }
 
 // The same of a shelf with few parts, without lock and alarm.
 fn set_few(image: &mut [u8], at: Output, number: u8) -> bool {
-    let mut b = Packed::new(FEW, false, false, &[7], image);
+    let mut b = Packed::new(FEW, image);
     b.write(at, number).is_ok()
 }
 
@@ -114,7 +125,7 @@ fn not_fitted(rt: HostRuntime) {
 
 // How many slots a shelf has over an image.
 fn slots_over(image: &mut [u8]) -> u8 {
-    let b = Packed::new(FULL, true, true, &IDS, image);
+    let b = Packed::new(FULL, image);
     b.configuration().counts.slots
 }
 
@@ -137,7 +148,7 @@ fn too_short(rt: HostRuntime) {
 #[test]
 fn switched_on(rt: HostRuntime) {
     let mut image = [0xff; 24];
-    assert!(rt; switch_on_packed(FULL, true, true, &IDS, &mut image, &[0; 33]).is_ok());
+    assert!(rt; switch_on_packed(FULL, &mut image, &[0; 33]).is_ok());
     assert_eq!(rt;
         image,
         [
@@ -146,7 +157,7 @@ fn switched_on(rt: HostRuntime) {
         ]
     );
     let mut few = [MIXED; 24];
-    assert!(rt; switch_on_packed(FEW, true, false, &[7], &mut few, &[0; 33]).is_ok());
+    assert!(rt; switch_on_packed(LOCKED, &mut few, &[0; 33]).is_ok());
     assert_eq!(rt;
         few,
         [
@@ -155,8 +166,8 @@ fn switched_on(rt: HostRuntime) {
         ]
     );
     let mut dark = [MIXED; 24];
-    assert!(rt; switch_on_packed(FULL, true, true, &IDS, &mut dark, &[0; 32]).is_err());
+    assert!(rt; switch_on_packed(FULL, &mut dark, &[0; 32]).is_err());
     assert!(rt; alone(&dark, 0, MIXED, MIXED));
-    assert!(rt; switch_on_packed(FULL, true, true, &IDS, &mut dark, &[0xff; 33]).is_err());
+    assert!(rt; switch_on_packed(FULL, &mut dark, &[0xff; 33]).is_err());
     assert!(rt; alone(&dark, 0, MIXED, MIXED));
 }
