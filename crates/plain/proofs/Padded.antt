@@ -12,16 +12,17 @@ where_true : {A : Type 0} (b : Bool) (f : ℕ → A) (d : A) (x y : ℕ) → (b 
 where_true true f d x y h = ap f (h refl)
 where_true false f d x y h = refl
 
--- a byte of the frame
-front : (frame rest : List ℕ) (i : ℕ) → i < length frame → get_or (frame ++ rest) i 0 ≡ get_or frame i 0
-front frame rest i h = get_or_append_left frame rest 0 i h
+-- what is read of a byte of the frame for part k of n
+same_byte : {A : Type 0} (k n : ℕ) (f : ℕ → A) (d : A) (frame rest : List ℕ) (i : ℕ) → (k < n → i < length frame)
+    → cond (ltb k n) (f (get_or (frame ++ rest) i 0)) d ≡ cond (ltb k n) (f (get_or frame i 0)) d
+same_byte k n f d frame rest i h = where_true (ltb k n) f d _ _ (λ t. get_or_append_left frame rest 0 i (h (ltb-true k n t)))
 
 pub padded_inputs : (c : Configuration) (frame rest : List ℕ) → length frame ≡ frame_length c → inputs_in c (frame ++ rest) ≡ inputs_in c frame
 padded_inputs c frame rest long =
     let n = c.counts in
     same_inputs (inputs_in c (frame ++ rest)) (inputs_in c frame)
-    (λ k. where_true (ltb k n.slots) (λ b. eqb b 1) false _ _ (λ t. let l = ltb-true k n.slots t in front frame rest k (omega arith)))
-    (λ k. where_true (ltb k n.fans) condition_of Works _ _ (λ t. let l = ltb-true k n.fans t in front frame rest (fans_at c + k) (omega arith)))
-    (λ k. where_true (ltb k n.supplies) condition_of Works _ _ (λ t. let l = ltb-true k n.supplies t in front frame rest (supplies_at c + k) (omega arith)))
-    (λ k. where_true (ltb k n.sensors) (λ b. b) 0 _ _ (λ t. let l = ltb-true k n.sensors t in front frame rest (temperatures_at c + k) (omega arith)))
-    (λ k. where_true (ltb k (n.sensors + n.thermostats)) (λ b. eqb b 1) false _ _ (λ t. let l = ltb-true k (n.sensors + n.thermostats) t in front frame rest (flags_at c + k) (omega arith)))
+    (λ k. same_byte k n.slots (λ b. eqb b 1) false frame rest k (λ l. omega arith))
+    (λ k. same_byte k n.fans condition_of Works frame rest (fans_at c + k) (λ l. omega arith))
+    (λ k. same_byte k n.supplies condition_of Works frame rest (supplies_at c + k) (λ l. omega arith))
+    (λ k. same_byte k n.sensors (λ b. b) 0 frame rest (temperatures_at c + k) (λ l. omega arith))
+    (λ k. same_byte k (n.sensors + n.thermostats) (λ b. eqb b 1) false frame rest (flags_at c + k) (λ l. omega arith))

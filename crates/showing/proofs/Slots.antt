@@ -1,6 +1,6 @@
 -- One slot shown, and one more.
-use Rattle.std.proofs.Common.{◌≡◌, ℕ, ◌+◌, ◌<◌, ◌≤◌, Bool, true, false, cond, ◌&&◌, eqb, ltb, sym, refl, ap, ◌∙◌, inl, inr, arith}
-use Rattle.std.proofs.lemmas.Bool.{cases_eq, cases_lt, eq-eqb, eqb-true, le-ltb, lt-ltb, ne_eqb}
+use Rattle.std.proofs.Common.{◌≡◌, ℕ, ◌+◌, ◌<◌, Bool, true, false, cond, ◌&&◌, eqb, ltb, refl, ap, ◌∙◌, arith}
+use Rattle.std.proofs.lemmas.Bool.Decides.{nat_tests}
 use Rattle.backplane.specs.Meaning.{Value, altered, one, put}
 use Rattle.backplane.specs.Same.{same_value}
 use Rattle.backplane.specs.declared.places.Output.{Output}
@@ -29,26 +29,10 @@ one_fits false = refl
 
 -- at place j: where slot k is fitted, and where it is not
 set_there : (d k j x y : ℕ) → ltb k d ≡ true → cond (eqb j k) x y ≡ cond (ltb j d && eqb j k) x y
-set_there d k j x y l = go (eqb j k) refl
-  where
-    go : (b : Bool) → eqb j k ≡ b → cond b x y ≡ cond (ltb j d && b) x y
-    go true e = rw (ap (λ (i : ℕ). ltb i d) (eqb-true j k e) ∙ l)
-    go false e = off (ltb j d)
-      where
-        off : (b : Bool) → y ≡ cond (b && false) x y
-        off true = refl
-        off false = refl
+set_there d k j x y l = grind (arith, nat_tests)
 
 left_there : (d k j x y : ℕ) → ltb k d ≡ false → y ≡ cond (ltb j d && eqb j k) x y
-left_there d k j x y l = go (eqb j k) refl
-  where
-    go : (b : Bool) → eqb j k ≡ b → y ≡ cond (ltb j d && b) x y
-    go true e = rw (ap (λ (i : ℕ). ltb i d) (eqb-true j k e) ∙ l)
-    go false e = off (ltb j d)
-      where
-        off : (b : Bool) → y ≡ cond (b && false) x y
-        off true = refl
-        off false = refl
+left_there d k j x y l = grind (arith, nat_tests)
 
 pub show_one : (v : Value) (k : ℕ) (s : Slot) →
     put (put v (Lamp k) (slot_lamp s)) (Connection k) (one (connected s)) ≡ made_where (of_slot v.configuration k) (slot_number (λ _. s)) v
@@ -93,35 +77,12 @@ show_one v k s = go (ltb k d) refl
         outs Lock = refl
 
 below_more : (g : ℕ → ℕ) (d k j y : ℕ) → k < d → cond (ltb j d && eqb j k) (g k) (cond (ltb j k) (g j) y) ≡ cond (ltb j (k + 1)) (g j) y
-below_more g d k j y l = elim (cases_eq j k) [ inl e ↦ here e | inr n ↦ elim (cases_lt j k) [ inl b ↦ before n b | inr a ↦ past n a ] ]
-  where
-    off : (b : Bool) (x z : ℕ) → cond (b && false) x z ≡ z
-    off true x z = refl
-    off false x z = refl
-
-    here : j ≡ k → cond (ltb j d && eqb j k) (g k) (cond (ltb j k) (g j) y) ≡ cond (ltb j (k + 1)) (g j) y
-    here e =
-        let p : j < d = omega arith in
-        let q : j < k + 1 = omega arith in
-        rw (eq-eqb j k e, lt-ltb j d p, lt-ltb j (k + 1) q) (ap g (sym e))
-
-    before : (j ≡ k → ⊥) → j < k → cond (ltb j d && eqb j k) (g k) (cond (ltb j k) (g j) y) ≡ cond (ltb j (k + 1)) (g j) y
-    before n b =
-        let q : j < k + 1 = omega arith in
-        rw (ne_eqb j k n, lt-ltb j k b, lt-ltb j (k + 1) q) (off (ltb j d) (g k) (g j))
-
-    past : (j ≡ k → ⊥) → k ≤ j → cond (ltb j d && eqb j k) (g k) (cond (ltb j k) (g j) y) ≡ cond (ltb j (k + 1)) (g j) y
-    past n a =
-        let q : k + 1 ≤ j = omega arith in
-        rw (ne_eqb j k n, le-ltb j k a, le-ltb j (k + 1) q) (off (ltb j d) (g k) y)
+below_more g d k j y l = grind (arith, nat_tests)
 
 pub show_more : (v : Value) (slots : ℕ → Slot) (k : ℕ) → k < v.configuration.counts.slots →
     made_where (of_slot v.configuration k) (slot_number (λ _. slots k)) (made_where (slots_below k) (slot_number slots) v) ≡ made_where (slots_below (k + 1)) (slot_number slots) v
 show_more v slots k l = same_value _ (made_where (slots_below (k + 1)) (slot_number slots) v) refl refl outs refl
   where
-    d : ℕ
-    d = v.configuration.counts.slots
-
     outs : (o : Output) →
         (made_where (of_slot v.configuration k) (slot_number (λ _. slots k)) (made_where (slots_below k) (slot_number slots) v)).outputs o ≡ (made_where (slots_below (k + 1)) (slot_number slots) v).outputs o
     outs (Lamp j) = below_more (λ i. slot_lamp (slots i)) v.configuration.counts.slots k j (v.outputs (Lamp j)) l
