@@ -3,7 +3,7 @@ use Rattle.std.proofs.Common.{◌≡◌, ℕ, ◌<◌, ◌≤◌, Bool, true, fa
 use mathlib.Core.Option.{some}
 use base.Fml.{GName}
 use borrow.Author.Tests.{clash}
-use Rattle.std.proofs.lemmas.Bool.{and_parts, cases_Bool, cond-false, cond-true, eqb-true}
+use Rattle.std.proofs.lemmas.Bool.{and_from, and_parts, cases_Bool, cond-false, cond-true, eqb-true}
 use Rattle.std.proofs.lemmas.Bool.Decides.{nat_tests}
 use Rattle.bits.specs.declared.Cell.{Cell}
 use Rattle.bits.specs.Image.{Put, bit, byte_of, held, limit, within}
@@ -124,10 +124,13 @@ pub cell_fits : (c : Configuration) (image : List ℕ) (at : Output) (n : ℕ) �
 cell_fits c image at n g =
     in_image (fitted c image) (few c (leb 19 (length image))) image at n (leb-true 19 (length image) (roomy c (leb 19 (length image)) at n g)) g
 
--- what a write that fits leaves
+-- a write that fits is done, and what it leaves
+pub put_done : {A E : Type 0} (old : List ℕ) (at cell : Cell) (n : ℕ) (r : Result A E) → at ≡ cell → is_ok r ≡ (ltb (byte_of at) (length old) && ltb n (limit at)) → (byte_of cell < length old) × (n < limit cell) → is_ok r ≡ true
+put_done old at cell n r is says fit =
+    says ∙ ap (λ (x : Cell). ltb (byte_of x) (length old) && ltb n (limit x)) is
+    ∙ and_from (ltb (byte_of cell) (length old)) (ltb n (limit cell)) (lt-ltb (byte_of cell) (length old) fit.0) (lt-ltb n (limit cell) fit.1)
+
 pub put_there : {A E : Type 0} (old new : List ℕ) (at cell : Cell) (n : ℕ) (r : Result A E) → at ≡ cell → is_ok r ≡ (ltb (byte_of at) (length old) && ltb n (limit at)) → (byte_of cell < length old) × (n < limit cell)
     → MatchResult r (λ _. Put old new at n) (λ _. new ≡ old) → Put old new cell n
 put_there old new at cell n (Ok _) is says fit done = let P : Cell → Type 0 = λ x. Put old new x n in subst P is done
-put_there old new at cell n (Err _) is says fit done =
-    let both : (ltb (byte_of cell) (length old) && ltb n (limit cell)) ≡ true = ap (λ t. t && ltb n (limit cell)) (lt-ltb (byte_of cell) (length old) fit.0) ∙ lt-ltb n (limit cell) fit.1 in
-    absurd (clash (says ∙ ap (λ (x : Cell). ltb (byte_of x) (length old) && ltb n (limit x)) is ∙ both))
+put_there {A = A} old new at cell n (Err e) is says fit done = absurd (clash (put_done {A = A} old at cell n (Err e) is says fit))
