@@ -33,7 +33,7 @@ impl<'a> Command<'a> {
     fn field(self, k: usize) -> u8
         ensures { result ≡ field (heard self.entry) k }
     {
-        if k < self.cdb.len() { self.cdb[k] } else { 0 }
+        self.cdb.get(k).copied().unwrap_or(0)
     }
 
     pub fn opcode(self) -> u8
@@ -72,7 +72,7 @@ impl<'a> Command<'a> {
     pub fn long_length(self) -> usize
         ensures { result ≡ long_length (heard self.entry) }
     {
-        self.field(7) as usize * 256 + self.field(8) as usize
+        usize::from(u16::from_be_bytes([self.field(7), self.field(8)]))
     }
 
     // Whether the CDB has under 2 bytes, or another length than its opcode has.
@@ -89,10 +89,6 @@ impl<'a> Command<'a> {
         ensures { result.now ≡ sent (heard self.entry) }
     {
         let len = self.long_length();
-        if len < self.payload.len() {
-            &self.payload[..len]
-        } else {
-            self.payload
-        }
+        self.payload.get(..len).unwrap_or(self.payload)
     }
 }
