@@ -36,11 +36,7 @@ fn show_page<B: Backplane>(
     ensures laid { 64 ≤ length buffer.old → FineBelow (B.Backplane.value b.now).configuration.counts.slots (slots_of table.now) → buffer.new ≡ take limit (page_bytes (B.Backplane.value b.now).configuration id (parts_of (B.Backplane.value b.now) (slots_of table.now)) (rest_of (B.Backplane.value b.now) (counts_of table.now) flags)) ++ drop result buffer.old }
 {
     let mut page = [0; 64];
-    let len = lay_page(b, table, flags, id, &mut page);
-    if len > 64 {
-        return 0;
-    }
-    send(&page[..len], limit, buffer)
+    send(lay_page(b, table, flags, id, &mut page), limit, buffer)
 }
 
 // Answers a command that comes to a verdict and is not refused, by what the shelf holds before it. The buffer has 64 bytes at least, and the rows of the slots are records.

@@ -1,3 +1,2 @@
-pub mod Fronts
-pub mod Statuses
 pub mod Listing
+pub mod Statuses

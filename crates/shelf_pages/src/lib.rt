@@ -3,8 +3,9 @@
 
 ghost use Rattle.std.specs.Prelude.{◌≡◌, ℕ, ◌<◌, ◌≤◌, List, length};
 ghost use Rattle.history.specs.Replies.{listed, page_bytes, slot_page, status_of};
+ghost use Rattle.pages.specs.Into.{laid_front, length_within};
 ghost use Rattle.pages.specs.Pages.{configuration_page, global_flags_page, insertions_page, status_page};
-ghost use Rattle.shelf_pages.specs.Held.{FineBelow, Front, parts_of, rest_of, set_if, status_parts, status_rest};
+ghost use Rattle.shelf_pages.specs.Held.{FineBelow, parts_of, rest_of, set_if, status_parts, status_rest};
 ghost use Rattle.table.specs.Table.{counts_of, slots_of};
 
 use backplane::interface::Backplane;
@@ -21,92 +22,101 @@ use table::rows::Table;
 fn if_fitted(fitted: bool, number: Option<u8>) -> Option<bool>
     ensures { result ≡ set_if fitted number }
 {
-    if fitted {
-        Some(number == Some(1))
-    } else {
-        None
-    }
+    fitted.then_some(number == Some(1))
+}
+
+// The page that was laid at the front of a buffer, by its length; nothing where there was no room for it.
+fn front(buffer: &[u8; 64], len: Option<usize>) -> &[u8]
+    ensures short { length result.now ≤ 64 }
+    ensures page { (page old : List ℕ) → length page ≤ 64 → length old ≡ 64 → len ≡ length_within page (length old) → buffer.now ≡ laid_front page old → result.now ≡ page }
+{
+    len.and_then(|len| buffer.get(..len)).unwrap_or(&[])
 }
 
 // The status page.
-fn status<B: Backplane>(b: &B, buffer: &mut [u8; 64]) -> usize
-    ensures { Front (status_page (status_of (B.Backplane.value b.now).configuration (status_parts (B.Backplane.value b.now)) (status_rest (B.Backplane.value b.now)))) buffer.new result }
+fn status<'p, B: Backplane>(b: &B, buffer: &'p mut [u8; 64]) -> &'p [u8]
+    ensures short { length result.now ≤ 64 }
+    ensures page { result.now ≡ status_page (status_of (B.Backplane.value b.now).configuration (status_parts (B.Backplane.value b.now)) (status_rest (B.Backplane.value b.now))) }
 {
     let c = b.configuration();
     let counts = c.counts;
-    let (f, p, d, t) = (
-        counts.fans as usize,
-        counts.supplies as usize,
-        counts.slots as usize,
-        counts.sensors as usize,
-    );
-    let flags = t + counts.thermostats as usize;
+    let heat = counts.sensors + counts.thermostats;
     let parts = StatusParts {
-        fans: &fan_codes(b)[..f],
-        supplies: &supply_codes(b)[..p],
-        ids: &ids(b)[..d],
+        fans: &fan_codes(b)[..counts.fans as usize],
+        supplies: &supply_codes(b)[..counts.supplies as usize],
+        ids: &ids(b)[..counts.slots as usize],
         lock: if_fitted(c.lock, b.output(Output::Lock)),
         alarm: if_fitted(c.alarm, b.output(Output::Alarm)),
-        temperatures: &temperatures(b)[..t],
-        over_temperature: &over_temperature(b)[..flags],
+        temperatures: &temperatures(b)[..counts.sensors as usize],
+        over_temperature: &over_temperature(b)[..heat as usize],
     };
-    lay_status(parts, buffer).unwrap_or(0)
+    let len = lay_status(parts, buffer);
+    front(buffer, len)
 }
 
 // The configuration page.
-fn configuration<B: Backplane>(b: &B, buffer: &mut [u8; 64]) -> usize
-    ensures { Front (configuration_page (B.Backplane.value b.now).configuration.counts (B.Backplane.value b.now).configuration.lock (B.Backplane.value b.now).configuration.alarm) buffer.new result }
+fn configuration<'p, B: Backplane>(b: &B, buffer: &'p mut [u8; 64]) -> &'p [u8]
+    ensures short { length result.now ≤ 64 }
+    ensures page { result.now ≡ configuration_page (B.Backplane.value b.now).configuration.counts (B.Backplane.value b.now).configuration.lock (B.Backplane.value b.now).configuration.alarm }
 {
     let c = b.configuration();
-    lay_configuration(c.counts, c.lock, c.alarm, buffer).unwrap_or(0)
+    let len = lay_configuration(c.counts, c.lock, c.alarm, buffer);
+    front(buffer, len)
 }
 
-// The insertion page of up to 14 slots.
-fn insertions(table: &Table, slots: u8, buffer: &mut [u8; 64]) -> usize
-    ensures { slots ≤ 14 → Front (insertions_page (listed (λ k. record { 0 = counts_of table.now k }) slots)) buffer.new result }
+// How many slots there are.
+fn slot_count<B: Backplane>(b: &B) -> usize
+    ensures is { result ≡ (B.Backplane.value b.now).configuration.counts.slots }
+    ensures few { result ≤ 14 }
+{
+    b.configuration().counts.slots as usize
+}
+
+// The insertion page.
+fn insertions<'p, B: Backplane>(b: &B, table: &Table, buffer: &'p mut [u8; 64]) -> &'p [u8]
+    ensures short { length result.now ≤ 64 }
+    ensures page { result.now ≡ insertions_page (listed (λ k. record { 0 = counts_of table.now k }) (B.Backplane.value b.now).configuration.counts.slots) }
 {
     let counts = insertion_counts(table);
-    let end = slots as usize;
-    if end > 14 {
-        return 0;
-    }
-    lay_insertions(&counts[..end], buffer).unwrap_or(0)
+    let len = lay_insertions(&counts[..slot_count(b)], buffer);
+    front(buffer, len)
 }
 
-// The slot page of up to 14 slots, whose rows are records.
-fn slots(table: &Table, slots: u8, buffer: &mut [u8; 64]) -> usize
-    ensures { slots ≤ 14 → FineBelow slots (slots_of table.now) → Front (slot_page (listed (slots_of table.now) slots)) buffer.new result }
+// The slot page of slots whose rows are records.
+fn slots<'p, B: Backplane>(b: &B, table: &Table, buffer: &'p mut [u8; 64]) -> &'p [u8]
+    ensures short { length result.now ≤ 64 }
+    ensures page { FineBelow (B.Backplane.value b.now).configuration.counts.slots (slots_of table.now) → result.now ≡ slot_page (listed (slots_of table.now) (B.Backplane.value b.now).configuration.counts.slots) }
 {
     let shown = slots_shown(table);
-    let end = slots as usize;
-    if end > 14 {
-        return 0;
-    }
-    lay_slots(&shown[..end], buffer).unwrap_or(0)
+    let len = lay_slots(&shown[..slot_count(b)], buffer);
+    front(buffer, len)
 }
 
 // The page of global flags.
-fn global_flags(flags: [u8; 3], buffer: &mut [u8; 64]) -> usize
-    ensures { Front (global_flags_page flags) buffer.new result }
+fn global_flags(flags: [u8; 3], buffer: &mut [u8; 64]) -> &[u8]
+    ensures short { length result.now ≤ 64 }
+    ensures page { result.now ≡ global_flags_page flags }
 {
-    lay_global_flags(flags, buffer).unwrap_or(0)
+    let len = lay_global_flags(flags, buffer);
+    front(buffer, len)
 }
 
-// Lays a page of a shelf at the front of the buffer, and answers its length. The rows of the slots are records.
-pub fn lay_page<B: Backplane>(
+// Lays a page of a shelf at the front of the buffer, and hands it out. The rows of the slots are records.
+pub fn lay_page<'p, B: Backplane>(
     b: &B,
     table: &Table,
     flags: [u8; 3],
     id: u8,
-    buffer: &mut [u8; 64],
-) -> usize
-    ensures { FineBelow (B.Backplane.value b.now).configuration.counts.slots (slots_of table.now) → Front (page_bytes (B.Backplane.value b.now).configuration id (parts_of (B.Backplane.value b.now) (slots_of table.now)) (rest_of (B.Backplane.value b.now) (counts_of table.now) flags)) buffer.new result }
+    buffer: &'p mut [u8; 64],
+) -> &'p [u8]
+    ensures short { length result.now ≤ 64 }
+    ensures page { FineBelow (B.Backplane.value b.now).configuration.counts.slots (slots_of table.now) → result.now ≡ page_bytes (B.Backplane.value b.now).configuration id (parts_of (B.Backplane.value b.now) (slots_of table.now)) (rest_of (B.Backplane.value b.now) (counts_of table.now) flags) }
 {
     match id {
         0 => configuration(b, buffer),
         1 => status(b, buffer),
-        3 => insertions(table, b.configuration().counts.slots, buffer),
-        4 => slots(table, b.configuration().counts.slots, buffer),
+        3 => insertions(b, table, buffer),
+        4 => slots(b, table, buffer),
         _ => global_flags(flags, buffer),
     }
 }

@@ -1,16 +1,15 @@
-use Rattle.std.proofs.Common.{◌≡◌, ℕ, ◌+◌, ◌≤◌, length, take, sym, ap, ◌∙◌, subst, rules}
+use Rattle.std.proofs.Common.{◌+◌, take, ap, ◌∙◌, rules}
 use Rattle.backplane.specs.Meaning.{output_of}
 use Rattle.backplane.specs.declared.configuration.Configuration.{Configuration}
 use Rattle.backplane.specs.declared.places.Output.TheVariants.{Alarm, Lock}
 use Rattle.history.specs.Replies.{status_of}
-use Rattle.pages.specs.Pages.{Status, status_page}
+use Rattle.pages.specs.Pages.{status_page}
 use Rattle.shelf_pages.specs.Held.{set_if, status_parts, status_rest}
-use Rattle.shelf_pages.proofs.Fronts.{front, told}
-use Rattle.shelf_pages.proofs.Statuses.{same_status, set_fitted, status_fits}
+use Rattle.shelf_pages.proofs.Statuses.{same_status, set_fitted}
 use Rattle.shelf_pages.proofs.status.Goals as goal
 
-pub returns : goal.returns
-returns g c =
+pub returns-clause-page : goal.returns-clause-page
+returns-clause-page g c =
     let v = g.B.Backplane.value c.args.b.now in
     let s = status_of v.configuration (status_parts v) (status_rest v) in
     let k = c.configuration-c.ensures in
@@ -22,7 +21,4 @@ returns g c =
     (c.if_fitted-2.ensures ∙ ap (set_if _) c.output-2.ensures ∙ ap (λ (p : Configuration). set_if p.alarm (output_of v Alarm)) k ∙ set_fitted v.configuration.alarm (v.outputs Alarm))
     (ap (λ (p : Configuration). take p.counts.sensors c.temperatures.result) k ∙ c.temperatures.ensures)
     (ap (λ (p : Configuration). take (p.counts.sensors + p.counts.thermostats) c.over_temperature.result) k ∙ c.over_temperature.ensures) in
-    let size : length c.args.buffer.now ≡ 64 = search rules in
-    let fit = subst (λ (t : Status). length (status_page t) ≤ length c.args.buffer.now) (sym e) (subst (λ (n : ℕ). length (status_page s) ≤ n) (sym size) (status_fits v.configuration (status_parts v) (status_rest v) (g.B.Backplane.bounded c.args.b.now))) in
-    told _ (status_page s) c.lay_status.new.buffer c.unwrap_or.result (ap status_page e)
-    (front _ _ c.lay_status.new.buffer c.lay_status.result c.unwrap_or.result fit c.lay_status.ensures.len c.lay_status.ensures.page c.unwrap_or.ensures)
+    c.front.ensures.page _ c.args.buffer.now (search rules) (search rules) c.lay_status-len.ensures.len c.lay_status-len.ensures.page ∙ ap status_page e
