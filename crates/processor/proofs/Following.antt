@@ -11,8 +11,6 @@ use Rattle.history.proofs.Altered.{refused_alters_nothing}
 use Rattle.hosts.specs.Held.{hosts_of}
 use Rattle.replies.specs.Answered.{answer_to, is_refusal, laid, result_of}
 use Rattle.replies.specs.declared.reply.Ended.{Ended}
-use Rattle.shelf_pages.specs.Held.{FineBelow}
-use Rattle.history.specs.Kept.{Fine}
 use Rattle.table.specs.Table.{counts_of, slots_of}
 use Rattle.processor.specs.Follows.{Commanded, TiedTo}
 use Rattle.processor.specs.Settled.{flags_by, slots_by, value_by}
@@ -55,14 +53,11 @@ module _ (w : history.World) (v : Value) (conf : w.configuration ≡ v.configura
         ties = subst (TiedTo v k) (sym (refused_alters_nothing w (history.powered s) (history.command c) r a)) t;
       }
 
-  fine_all : (s : history.Shelf) → Tied v slots counts hosts k.memory.flags s → FineBelow v.configuration.counts.slots slots
-  fine_all s t j l = subst (λ (x : history.Slot). Fine x.row) (sym (t.same_slots j l)) (t.fine j l)
-
   -- what a command that comes to a verdict did
   pub record Facts (v' : Value) (k' : State) (old new : List ℕ) (r : Ended) (x : Verdict) : Type 0 where
     pub go : is_refusal x ≡ false
-    pub says : 64 ≤ c.room → FineBelow v.configuration.counts.slots slots → Ok r ≡ result_of (answer_to v slots counts k.memory.flags w.identity x (hosts c.host))
-    pub lays : 64 ≤ c.room → FineBelow v.configuration.counts.slots slots → new ≡ laid (answer_to v slots counts k.memory.flags w.identity x (hosts c.host)) old
+    pub says : 64 ≤ c.room → Ok r ≡ result_of (answer_to v slots counts k.memory.flags w.identity x (hosts c.host))
+    pub lays : 64 ≤ c.room → new ≡ laid (answer_to v slots counts k.memory.flags w.identity x (hosts c.host)) old
     pub hosts_now : (h : ℕ) → h < 16 → hosts_of k'.hosts h ≡ cond (eqb h c.host) (on_host x (hosts h)) (hosts h)
     pub slots_now : (j : ℕ) → j < 14 → slots_of k'.memory.table j ≡ slots_by (order_in x) slots j
     pub counts_now : counts_of k'.memory.table ≡ counts
@@ -75,13 +70,12 @@ module _ (w : history.World) (v : Value) (conf : w.configuration ≡ v.configura
   done_follows v' k' old new r x is facts (history.powered s) t =
       let f : Facts v' k' old new r told = subst (Facts v' k' old new r) is facts in
       let adm = admitted v.configuration (hosts c.host).attention c f.go in
-      let fine = fine_all s t.1 in
       let q = same_verdict w v conf slots counts hosts k.memory.flags s few t.1 c in
       let a : answer_to v slots counts k.memory.flags w.identity told (hosts c.host) ≡ replied w s c
       = same_answer w v conf slots counts hosts k.memory.flags s few t.1 c adm.host told ∙ sym (ap (λ (y : Verdict). reply w y (s.hosts c.host) s.parts s.rest) q) in
       record {
-        says = f.says adm.room fine ∙ ap result_of a;
-        lays = f.lays adm.room fine ∙ ap (λ (y : history.Answer). laid y old) a;
+        says = f.says adm.room ∙ ap result_of a;
+        lays = f.lays adm.room ∙ ap (λ (y : history.Answer). laid y old) a;
         ties = (
           f.still ∙ on,
           recast _ v' (slots_of k'.memory.table) counts (counts_of k'.memory.table) (hosts_of k'.hosts) _ k'.memory.flags _ (commanded w s c)

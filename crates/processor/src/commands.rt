@@ -2,8 +2,7 @@
 ghost use Rattle.std.specs.Prelude.{◌≡◌, ℕ, ◌<◌, ◌≤◌, false, length, if◌then◌else◌, Ok, nat_eq};
 ghost use Rattle.history.specs.Judgement.{on_host, order_in};
 ghost use Rattle.hosts.specs.Held.{hosts_of};
-ghost use Rattle.replies.specs.Answered.{answer_to, is_refusal, laid, result_of};
-ghost use Rattle.shelf_pages.specs.Held.{FineBelow};
+ghost use Rattle.replies.specs.Answered.{answer_in, is_refusal, laid, result_of};
 ghost use Rattle.table.specs.Table.{counts_of, slots_of};
 ghost use Rattle.verdicts.specs.Judged.{verdict_as};
 ghost use Rattle.processor.specs.Settled.{flags_by, slots_by, value_by};
@@ -28,8 +27,8 @@ impl State {
         verdict: Verdict<'_>,
         buffer: &mut [u8],
     ) -> Ended
-        ensures says { is_refusal (verdict_as verdict.entry) ≡ false → 64 ≤ length buffer.old → FineBelow (B.Backplane.value b.old).configuration.counts.slots (slots_of self.old.memory.table) → Ok result ≡ result_of (answer_to (B.Backplane.value b.old) (slots_of self.old.memory.table) (counts_of self.old.memory.table) self.old.memory.flags self.old.identity (verdict_as verdict.entry) (hosts_of self.old.hosts host)) }
-        ensures lays { 64 ≤ length buffer.old → FineBelow (B.Backplane.value b.old).configuration.counts.slots (slots_of self.old.memory.table) → buffer.new ≡ laid (answer_to (B.Backplane.value b.old) (slots_of self.old.memory.table) (counts_of self.old.memory.table) self.old.memory.flags self.old.identity (verdict_as verdict.entry) (hosts_of self.old.hosts host)) buffer.old }
+        ensures says { is_refusal (verdict_as verdict.entry) ≡ false → 64 ≤ length buffer.old → Ok result ≡ result_of (answer_in (B.Backplane.value b.old) self.old.memory self.old.identity (verdict_as verdict.entry) (hosts_of self.old.hosts host)) }
+        ensures lays { 64 ≤ length buffer.old → buffer.new ≡ laid (answer_in (B.Backplane.value b.old) self.old.memory self.old.identity (verdict_as verdict.entry) (hosts_of self.old.hosts host)) buffer.old }
         ensures hosts { (k : ℕ) → k < 16 → hosts_of self.new.hosts k ≡ (if nat_eq k host then on_host (verdict_as verdict.entry) (hosts_of self.old.hosts k) else hosts_of self.old.hosts k) }
         ensures slots { (k : ℕ) → k < 14 → slots_of self.new.memory.table k ≡ slots_by (order_in (verdict_as verdict.entry)) (slots_of self.old.memory.table) k }
         ensures counts { counts_of self.new.memory.table ≡ counts_of self.old.memory.table }
@@ -39,8 +38,7 @@ impl State {
     {
         let ended = reply(
             &*b,
-            &self.memory.table,
-            self.memory.flags,
+            &self.memory,
             &self.identity,
             verdict,
             self.hosts.get(host),

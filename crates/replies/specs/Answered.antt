@@ -7,6 +7,8 @@ use Rattle.history.specs.Judgement.{Verdict, refuse, miss, miss_inquiry, miss_se
 use Rattle.history.specs.Replies.{reply}
 use Rattle.history.specs.Shelf as history
 use Rattle.shelf_pages.specs.Held.{parts_of, rest_of}
+use Rattle.table.specs.Table.{counts_of, slots_of}
+use Rattle.table.specs.declared.memory.Memory.{Memory}
 use Rattle.replies.specs.declared.reply.Ended.{Ended}
 
 -- a refusal, or the status with the number of reply bytes
@@ -25,6 +27,10 @@ laid (history.ended s bs) old = bs ++ drop (length bs) old
 abbrev pub answer_to : Value → (ℕ → history.Slot) → (ℕ → ℕ) → List ℕ → List ℕ → Verdict → history.Host → history.Answer
 answer_to v slots counts flags identity verdict host =
     reply (record { configuration = v.configuration; reading = λ _. None; identity = identity }) verdict host (parts_of v slots) (rest_of v counts flags)
+
+-- the same by what a shelf remembers
+abbrev pub answer_in : Value → Memory → List ℕ → Verdict → history.Host → history.Answer
+answer_in v m identity verdict host = answer_to v (slots_of m.table) (counts_of m.table) m.flags identity verdict host
 
 -- a command is refused
 abbrev pub is_refusal : Verdict → Bool

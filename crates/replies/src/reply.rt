@@ -2,9 +2,8 @@
 ghost use Rattle.std.specs.Prelude.{◌≡◌, ◌≤◌, false, ◌++◌, length, take, drop, Ok};
 ghost use Rattle.history.specs.Replies.{page_bytes};
 ghost use Rattle.hosts.specs.Held.{host_as};
-ghost use Rattle.replies.specs.Answered.{answer_to, is_refusal, laid, result_of};
-ghost use Rattle.shelf_pages.specs.Held.{FineBelow, parts_of, rest_of};
-ghost use Rattle.table.specs.Table.{counts_of, slots_of};
+ghost use Rattle.replies.specs.Answered.{answer_in, is_refusal, laid, result_of};
+ghost use Rattle.shelf_pages.specs.Held.{parts_in, rest_in};
 ghost use Rattle.verdicts.specs.Judged.{verdict_as};
 
 use crate::bytes::{inquiry_bytes, send, sense_bytes};
@@ -13,7 +12,7 @@ use answers::status::Status;
 use backplane::interface::Backplane;
 use hosts::Host;
 use shelf_pages::lay_page;
-use table::rows::Table;
+use table::memory::Memory;
 use verdicts::Verdict;
 
 // The status of a command, and the number of bytes that it sends.
@@ -24,33 +23,25 @@ pub struct Ended {
 }
 
 // Sends a page, up to a length.
-fn show_page<B: Backplane>(
-    b: &B,
-    table: &Table,
-    flags: [u8; 3],
-    id: u8,
-    limit: usize,
-    buffer: &mut [u8],
-) -> usize
-    ensures len { 64 ≤ length buffer.old → FineBelow (B.Backplane.value b.now).configuration.counts.slots (slots_of table.now) → result ≡ length (take limit (page_bytes (B.Backplane.value b.now).configuration id (parts_of (B.Backplane.value b.now) (slots_of table.now)) (rest_of (B.Backplane.value b.now) (counts_of table.now) flags))) }
-    ensures laid { 64 ≤ length buffer.old → FineBelow (B.Backplane.value b.now).configuration.counts.slots (slots_of table.now) → buffer.new ≡ take limit (page_bytes (B.Backplane.value b.now).configuration id (parts_of (B.Backplane.value b.now) (slots_of table.now)) (rest_of (B.Backplane.value b.now) (counts_of table.now) flags)) ++ drop result buffer.old }
+fn show_page<B: Backplane>(b: &B, memory: &Memory, id: u8, limit: usize, buffer: &mut [u8]) -> usize
+    ensures len { 64 ≤ length buffer.old → result ≡ length (take limit (page_bytes (B.Backplane.value b.now).configuration id (parts_in (B.Backplane.value b.now) memory.now) (rest_in (B.Backplane.value b.now) memory.now))) }
+    ensures laid { 64 ≤ length buffer.old → buffer.new ≡ take limit (page_bytes (B.Backplane.value b.now).configuration id (parts_in (B.Backplane.value b.now) memory.now) (rest_in (B.Backplane.value b.now) memory.now)) ++ drop result buffer.old }
 {
     let mut page = [0; 64];
-    send(lay_page(b, table, flags, id, &mut page), limit, buffer)
+    send(lay_page(b, memory, id, &mut page), limit, buffer)
 }
 
-// Answers a command that comes to a verdict and is not refused, by what the shelf holds before it. The buffer has 64 bytes at least, and the rows of the slots are records.
+// Answers a command that comes to a verdict and is not refused, by what the shelf holds before it. The buffer has 64 bytes at least.
 pub fn reply<B: Backplane>(
     b: &B,
-    table: &Table,
-    flags: [u8; 3],
+    memory: &Memory,
     identity: &[u8; 36],
     verdict: Verdict<'_>,
     host: Host,
     buffer: &mut [u8],
 ) -> Ended
-    ensures says { is_refusal (verdict_as verdict.entry) ≡ false → 64 ≤ length buffer.old → FineBelow (B.Backplane.value b.now).configuration.counts.slots (slots_of table.now) → Ok result ≡ result_of (answer_to (B.Backplane.value b.now) (slots_of table.now) (counts_of table.now) flags identity.now (verdict_as verdict.entry) (host_as host)) }
-    ensures lays { 64 ≤ length buffer.old → FineBelow (B.Backplane.value b.now).configuration.counts.slots (slots_of table.now) → buffer.new ≡ laid (answer_to (B.Backplane.value b.now) (slots_of table.now) (counts_of table.now) flags identity.now (verdict_as verdict.entry) (host_as host)) buffer.old }
+    ensures says { is_refusal (verdict_as verdict.entry) ≡ false → 64 ≤ length buffer.old → Ok result ≡ result_of (answer_in (B.Backplane.value b.now) memory.now identity.now (verdict_as verdict.entry) (host_as host)) }
+    ensures lays { 64 ≤ length buffer.old → buffer.new ≡ laid (answer_in (B.Backplane.value b.now) memory.now identity.now (verdict_as verdict.entry) (host_as host)) buffer.old }
 {
     let len = match verdict {
         Verdict::Refuse(_) | Verdict::Miss | Verdict::Attend | Verdict::Reject(_) => {
@@ -64,7 +55,7 @@ pub fn reply<B: Backplane>(
         Verdict::MissSense(limit) => send(&sense_bytes(Sense::LogicalUnit), limit as usize, buffer),
         Verdict::Inquire(limit) => send(&inquiry_bytes(0x03, identity), limit as usize, buffer),
         Verdict::ShowSense(limit) => send(&sense_bytes(host.shown()), limit as usize, buffer),
-        Verdict::ShowPage(id, limit) => show_page(b, table, flags, id, limit, buffer),
+        Verdict::ShowPage(id, limit) => show_page(b, memory, id, limit, buffer),
     };
     Ended {
         status: Status::Good,

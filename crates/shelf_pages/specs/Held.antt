@@ -1,10 +1,11 @@
 -- What a shelf holds, as the history has it.
-use Rattle.std.specs.Prelude.{ℕ, ◌<◌, Bool, false, cond, List, [], Some, None, Option, ◌==◌}
+use Rattle.std.specs.Prelude.{ℕ, Bool, false, cond, List, [], Some, None, Option, ◌==◌}
 use Rattle.backplane.specs.Meaning.{Value}
 use Rattle.backplane.specs.declared.places.Output.TheVariants.{Speed, Supply, Alarm, Lock}
-use Rattle.history.specs.Kept.{Fine}
 use Rattle.history.specs.Shelf as history
 use Rattle.history.specs.Steps.{first_slot}
+use Rattle.table.specs.Table.{counts_of, slots_of}
+use Rattle.table.specs.declared.memory.Memory.{Memory}
 
 -- the slots of its table, and the settings at its outputs
 abbrev pub parts_of : Value → (ℕ → history.Slot) → (p : history.Part) → history.Value p
@@ -16,9 +17,12 @@ abbrev pub rest_of : Value → (ℕ → ℕ) → List ℕ → history.Rest
 rest_of v counts flags =
     record { inputs = v.inputs; counts = counts; alarm = (v.outputs Alarm == 1); lock = (v.outputs Lock == 1); flags = flags }
 
--- the rows of the slots below a number are records
-abbrev pub FineBelow : ℕ → (ℕ → history.Slot) → Type 0
-FineBelow n slots = (k : ℕ) → k < n → Fine (slots k).row
+-- the same by what a shelf remembers
+abbrev pub parts_in : Value → Memory → (p : history.Part) → history.Value p
+parts_in v m = parts_of v (slots_of m.table)
+
+abbrev pub rest_in : Value → Memory → history.Rest
+rest_in v m = rest_of v (counts_of m.table) m.flags
 
 -- slots and counts where none matter
 abbrev pub no_slots : ℕ → history.Slot

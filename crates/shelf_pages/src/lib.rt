@@ -1,11 +1,11 @@
 // The pages of a shelf, laid from its backplane and what it keeps.
 #![tactic(auto)]
 
-ghost use Rattle.std.specs.Prelude.{◌≡◌, ℕ, ◌<◌, ◌≤◌, List, length};
+ghost use Rattle.std.specs.Prelude.{◌≡◌, ℕ, ◌≤◌, List, length};
 ghost use Rattle.history.specs.Replies.{listed, page_bytes, slot_page, status_of};
 ghost use Rattle.pages.specs.Into.{laid_front, length_within};
 ghost use Rattle.pages.specs.Pages.{configuration_page, global_flags_page, insertions_page, status_page};
-ghost use Rattle.shelf_pages.specs.Held.{FineBelow, parts_of, rest_of, set_if, status_parts, status_rest};
+ghost use Rattle.shelf_pages.specs.Held.{parts_in, rest_in, set_if, status_parts, status_rest};
 ghost use Rattle.table.specs.Table.{counts_of, slots_of};
 
 use backplane::interface::Backplane;
@@ -16,6 +16,7 @@ use pages::configuration::lay_configuration;
 use pages::flags::lay_global_flags;
 use pages::slots::{lay_insertions, lay_slots};
 use pages::status::{StatusParts, lay_status};
+use table::memory::Memory;
 use table::rows::Table;
 
 // Whether something that is fitted is set.
@@ -82,10 +83,10 @@ fn insertions<'p, B: Backplane>(b: &B, table: &Table, buffer: &'p mut [u8; 64]) 
     front(buffer, len)
 }
 
-// The slot page of slots whose rows are records.
+// The slot page.
 fn slots<'p, B: Backplane>(b: &B, table: &Table, buffer: &'p mut [u8; 64]) -> &'p [u8]
     ensures short { length result.now ≤ 64 }
-    ensures page { FineBelow (B.Backplane.value b.now).configuration.counts.slots (slots_of table.now) → result.now ≡ slot_page (listed (slots_of table.now) (B.Backplane.value b.now).configuration.counts.slots) }
+    ensures page { result.now ≡ slot_page (listed (slots_of table.now) (B.Backplane.value b.now).configuration.counts.slots) }
 {
     let shown = slots_shown(table);
     let len = lay_slots(&shown[..slot_count(b)], buffer);
@@ -101,22 +102,21 @@ fn global_flags(flags: [u8; 3], buffer: &mut [u8; 64]) -> &[u8]
     front(buffer, len)
 }
 
-// Lays a page of a shelf at the front of the buffer, and hands it out. The rows of the slots are records.
+// Lays a page of a shelf at the front of the buffer, and hands it out.
 pub fn lay_page<'p, B: Backplane>(
     b: &B,
-    table: &Table,
-    flags: [u8; 3],
+    memory: &Memory,
     id: u8,
     buffer: &'p mut [u8; 64],
 ) -> &'p [u8]
     ensures short { length result.now ≤ 64 }
-    ensures page { FineBelow (B.Backplane.value b.now).configuration.counts.slots (slots_of table.now) → result.now ≡ page_bytes (B.Backplane.value b.now).configuration id (parts_of (B.Backplane.value b.now) (slots_of table.now)) (rest_of (B.Backplane.value b.now) (counts_of table.now) flags) }
+    ensures page { result.now ≡ page_bytes (B.Backplane.value b.now).configuration id (parts_in (B.Backplane.value b.now) memory.now) (rest_in (B.Backplane.value b.now) memory.now) }
 {
     match id {
         0 => configuration(b, buffer),
         1 => status(b, buffer),
-        3 => insertions(b, table, buffer),
-        4 => slots(b, table, buffer),
-        _ => global_flags(flags, buffer),
+        3 => insertions(b, &memory.table, buffer),
+        4 => slots(b, &memory.table, buffer),
+        _ => global_flags(memory.flags, buffer),
     }
 }
