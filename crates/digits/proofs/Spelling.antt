@@ -1,8 +1,7 @@
 -- Hex text: the step of the loop that reads it, and what reads. Assumes nothing.
-use Rattle.std.proofs.Common.{◌≡◌, ℕ, ◌+◌, ◌*◌, ◌/◌, ◌%◌, ◌<◌, true, not, ◌⊎◌, List, [], ◌∷◌, ◌++◌, map, length, get_or, drop, IfOk, Some, None, Ok, Err, All, Option, Result, sym, refl, ap, ◌∙◌, inl, inr, append_assoc, arith, MatchResult}
+use Rattle.std.proofs.Common.{◌≡◌, ℕ, ◌+◌, ◌*◌, ◌/◌, ◌%◌, ◌<◌, true, not, ◌⊎◌, List, [], ◌∷◌, ◌++◌, map, length, get_or, IfOk, Some, None, Ok, Err, All, Option, Result, sym, refl, ap, ◌∙◌, inl, inr, append_assoc, arith, MatchResult}
 use Rattle.std.specs.Char.{digit_char, to_ascii_lowercase}
 use Rattle.std.specs.List.{flat_map}
-use Rattle.std.proofs.lemmas.List.{drop_more}
 use Rattle.std.proofs.lemmas.List.Elements.{All-head, All-tail}
 use Rattle.std.proofs.lemmas.Bool.{cond-true}
 use Rattle.std.proofs.lemmas.Bool.Decides.{nat_tests}
@@ -21,21 +20,17 @@ after_followed : (xs : List ℕ) (b : ℕ) (o : Option (List ℕ)) → after (xs
 after_followed xs b None = refl
 after_followed xs b (Some ys) = ap (λ (l : List ℕ). Some l) (append_assoc xs (b ∷ []) ys)
 
-two_more : (text : List ℕ) (k : ℕ) → 2 * k + 1 < length text → drop (2 * k) text ≡ get_or text (2 * k) 0 ∷ get_or text (2 * k + 1) 0 ∷ drop (2 * (k + 1)) text
-two_more text k h =
-    let next : 2 * k + 1 + 1 ≡ 2 * (k + 1) = omega arith in
-    drop_more text (2 * k) 0 (omega arith) ∙ ap (λ (l : List ℕ). get_or text (2 * k) 0 ∷ l) (drop_more text (2 * k + 1) 0 h ∙ ap (λ n. get_or text (2 * k + 1) 0 ∷ drop n text) next)
-
-left_read : (text : List ℕ) (k : ℕ) (o : Option ℕ) → 2 * k + 1 < length text → byte_of (get_or text (2 * k) 0) (get_or text (2 * k + 1) 0) ≡ o → hex_read (drop (2 * k) text) ≡ followed o (hex_read (drop (2 * (k + 1)) text))
-left_read text k o h e = ap hex_read (two_more text k h) ∙ ap (λ (p : Option ℕ). followed p (hex_read (drop (2 * (k + 1)) text))) e
+-- A pair in front of what is left.
+pair_read : (rest pair left : List ℕ) → rest ≡ pair ++ left → length pair ≡ 2 → hex_read rest ≡ followed (byte_of (get_or pair 0 0) (get_or pair 1 0)) (hex_read left)
+pair_read rest [] left e two = absurd (omega arith)
+pair_read rest (a ∷ []) left e two = absurd (omega arith)
+pair_read rest (a ∷ b ∷ []) left e two = ap hex_read e
+pair_read rest (a ∷ b ∷ c ∷ pair) left e two = absurd (omega arith)
 
 -- One more byte.
-pub pairs_more : (text xs ys : List ℕ) (k b : ℕ) → 2 * k + 1 < length text → byte_of (get_or text (2 * k) 0) (get_or text (2 * k + 1) 0) ≡ Some b → ys ≡ xs ++ b ∷ [] → after xs (hex_read (drop (2 * k) text)) ≡ hex_read text → after ys (hex_read (drop (2 * (k + 1)) text)) ≡ hex_read text
-pairs_more text xs ys k b h e grown inv = ap (λ (l : List ℕ). after l (hex_read (drop (2 * (k + 1)) text))) grown ∙ after_followed xs b (hex_read (drop (2 * (k + 1)) text)) ∙ sym (ap (after xs) (left_read text k (Some b) h e)) ∙ inv
-
--- A pair that is no byte.
-pub pairs_none : (text xs : List ℕ) (k : ℕ) → 2 * k + 1 < length text → byte_of (get_or text (2 * k) 0) (get_or text (2 * k + 1) 0) ≡ None → after xs (hex_read (drop (2 * k) text)) ≡ hex_read text → hex_read text ≡ None
-pairs_none text xs k h e inv = sym inv ∙ ap (after xs) (left_read text k None h e)
+pub pair_more : (rest pair left xs ys : List ℕ) (b : ℕ) (whole : Option (List ℕ)) → rest ≡ pair ++ left → length pair ≡ 2 → Some b ≡ byte_of (get_or pair 0 0) (get_or pair 1 0) → ys ≡ xs ++ b ∷ [] → after xs (hex_read rest) ≡ whole → after ys (hex_read left) ≡ whole
+pair_more rest pair left xs ys b whole e two is grown inv =
+    ap (λ (l : List ℕ). after l (hex_read left)) grown ∙ after_followed xs b (hex_read left) ∙ ap (λ (o : Option ℕ). after xs (followed o (hex_read left))) is ∙ sym (ap (after xs) (pair_read rest pair left e two)) ∙ inv
 
 followed_none : (o : Option ℕ) → followed o None ≡ None
 followed_none None = refl
@@ -82,9 +77,9 @@ digit_small : (c d : ℕ) → digit_of c ≡ Some d → d < 16
 digit_small c d e = grind (arith, nat_tests)
 
 only_step : (a b : ℕ) (rest bs : List ℕ) (h l : Option ℕ) (o : Option (List ℕ)) → digit_of a ≡ h → digit_of b ≡ l → followed (paired h l) o ≡ Some bs → ((cs : List ℕ) → o ≡ Some cs → map to_ascii_lowercase rest ≡ spelled cs) → map to_ascii_lowercase (a ∷ b ∷ rest) ≡ spelled bs
-only_step a b rest bs None l o p q e k = let z : ◌≡◌ {A = ℕ} 0 1 = cc in absurd (omega arith)
-only_step a b rest bs (Some x) None o p q e k = let z : ◌≡◌ {A = ℕ} 0 1 = cc in absurd (omega arith)
-only_step a b rest bs (Some x) (Some y) None p q e k = let z : ◌≡◌ {A = ℕ} 0 1 = cc in absurd (omega arith)
+only_step a b rest bs None l o p q e k = cc
+only_step a b rest bs (Some x) None o p q e k = cc
+only_step a b rest bs (Some x) (Some y) None p q e k = cc
 only_step a b rest bs (Some x) (Some y) (Some cs) p q e k =
     let small : y < 16 = digit_small b y q in
     let high : (x * 16 + y) / 16 ≡ x = omega arith in
@@ -97,7 +92,7 @@ only_step a b rest bs (Some x) (Some y) (Some cs) p q e k =
 
 pub read_only : (text bs : List ℕ) → hex_read text ≡ Some bs → map to_ascii_lowercase text ≡ spelled bs
 read_only [] bs e = let is : bs ≡ [] = cc in ap spelled (sym is)
-read_only (a ∷ []) bs e = let z : ◌≡◌ {A = ℕ} 0 1 = cc in absurd (omega arith)
+read_only (a ∷ []) bs e = cc
 read_only (a ∷ b ∷ rest) bs e = only_step a b rest bs (digit_of a) (digit_of b) (hex_read rest) refl refl e (λ cs. read_only rest cs)
 
 -- What is written with blanks is the same text without them.
@@ -124,7 +119,7 @@ module _ {X : Type 0} (items : X → List ℕ) where
   pub reads_back : (r : Result X HexFault) (text : List ℕ) → MatchResult r (λ v. hex_read text ≡ Some (items v)) (λ f. Failed f (hex_read text)) → (bs : List ℕ) → All (λ b. b < 256) bs → (text ≡ spelled bs) ⊎ (text ≡ spelled_upper bs) → MatchResult r (λ v. items v ≡ bs) (λ f. f ≡ Memory)
   reads_back (Ok v) text h bs small e = let f = read_back text bs small e in cc
   reads_back (Err Memory) text h bs small e = refl
-  reads_back (Err NotHex) text h bs small e = let f = read_back text bs small e in let z : ◌≡◌ {A = ℕ} 0 1 = cc in absurd (omega arith)
+  reads_back (Err NotHex) text h bs small e = let f = read_back text bs small e in cc
 
   pub reads_only : (r : Result X HexFault) (text : List ℕ) → MatchResult r (λ v. hex_read text ≡ Some (items v)) (λ f. Failed f (hex_read text)) → IfOk r (λ v. map to_ascii_lowercase text ≡ spelled (items v))
   reads_only (Ok v) text h = read_only text (items v) h

@@ -28,22 +28,16 @@ pub fn hex_digit(c: u8) -> Option<u8>
     ensures value { result ≡ digit_of c }
     ensures small { IfSome result (λ d. d < 16) }
 {
-    match c {
-        b'0'..=b'9' => Some(c - b'0'),
-        b'A'..=b'F' => Some(c - b'A' + 10),
-        b'a'..=b'f' => Some(c - b'a' + 10),
-        _ => None,
-    }
+    char::from(c).to_digit(16).map(|d| d as u8)
 }
 
 // The byte of a high and a low digit.
 fn hex_byte(high: u8, low: u8) -> Option<u8>
     ensures { result ≡ byte_of high low }
 {
-    match (hex_digit(high), hex_digit(low)) {
-        (Some(h), Some(l)) => Some(h * 16 + l),
-        _ => None,
-    }
+    let high = hex_digit(high)?;
+    let low = hex_digit(low)?;
+    Some(high * 16 + low)
 }
 
 // The bytes of a text of even length.
@@ -52,11 +46,9 @@ fn read_pairs(heap: Global, text: &[u8]) -> Result<Vec<u8>, HexFault>
     ensures { MatchResult result (λ v. hex_read text.now ≡ Some v.items) (λ f. Failed f (hex_read text.now)) }
 {
     let mut bytes = Vec::new(heap);
-    for k in 0..text.len() / 2 {
-        match hex_byte(text[2 * k], text[2 * k + 1]) {
-            Some(b) => bytes.push(b)?,
-            None => return Err(HexFault::NotHex),
-        }
+    for pair in text.chunks_exact(2) {
+        let byte = hex_byte(pair[0], pair[1]).ok_or(HexFault::NotHex)?;
+        bytes.push(byte)?;
     }
     Ok(bytes)
 }

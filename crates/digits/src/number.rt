@@ -6,15 +6,10 @@ ghost use Rattle.digits.specs.Number.{all_digits, value_of, number_after, number
 fn add_digit(n: u32, c: u8, most: u32) -> Option<u32>
     ensures { result ≡ digit_after most n c }
 {
-    if !c.is_ascii_digit() {
-        return None;
-    }
-    let wide = u64::from(n) * 10 + u64::from(c - b'0');
-    if wide <= u64::from(most) {
-        Some(wide as u32)
-    } else {
-        None
-    }
+    let digit = char::from(c).to_digit(10)?;
+    n.checked_mul(10)?
+        .checked_add(digit)
+        .filter(|more| *more <= most)
 }
 
 // The number that digits write, if it is at most `most`; none write 0.
@@ -23,10 +18,7 @@ fn read_digits(word: &[u8], most: u32) -> Option<u32>
 {
     let mut n = 0;
     for c in word {
-        match add_digit(n, *c, most) {
-            Some(more) => n = more,
-            None => return None,
-        }
+        n = add_digit(n, *c, most)?;
     }
     Some(n)
 }
