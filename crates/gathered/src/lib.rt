@@ -1,10 +1,10 @@
 // A line that is gathered from chunks of input.
 #![tactic(auto)]
 
-ghost use Rattle.std.specs.Prelude.{◌≡◌, ℕ, ◌+◌, true, List, [], ◌++◌, length, is_ok, IfOk, if◌then◌else◌};
+ghost use Rattle.std.specs.Prelude.{◌≡◌, ℕ, true, List, ◌++◌, Option, is_ok, IfOk, if◌then◌else◌};
 ghost use Rattle.std.specs.Option.{option_map};
 ghost use Rattle.words.specs.Words.{first_line};
-ghost use Rattle.gathered.specs.Gathered.{Held, add, begun, held, line_in, newline_in, nothing_in, used_of};
+ghost use Rattle.gathered.specs.Gathered.{add, begun, held, newline_in, nothing_in, used_of};
 
 use std::alloc::{AllocError, Global};
 use words::split_line;
@@ -12,11 +12,11 @@ use words::split_line;
 #[cfg(test)]
 mod tests;
 
-// The bytes of a line so far. Of a line that is too long none are kept.
+// The bytes of a line so far, or nothing once the line is too long.
 #[derive(Drop)]
 pub struct LineBuffer {
-    bytes: Vec<u8>,
-    over: bool,
+    bytes: Option<Vec<u8>>,
+    heap: Global,
 }
 
 // How many bytes of a chunk were taken, and whether the line ends with them.
@@ -35,8 +35,8 @@ impl LineBuffer {
         ensures { held result ≡ begun }
     {
         LineBuffer {
-            bytes: Vec::new(heap),
-            over: false,
+            bytes: Some(Vec::new(heap)),
+            heap,
         }
     }
 
@@ -44,16 +44,15 @@ impl LineBuffer {
     fn add(&mut self, more: &[u8]) -> Result<(), AllocError>
         ensures { held self.new ≡ (if is_ok result then add (held self.old) more.now else held self.old) }
     {
-        if self.over {
-            return Ok(());
+        match &mut self.bytes {
+            Some(bytes) if bytes.len().saturating_add(more.len()) <= Self::LONGEST => {
+                bytes.extend_from_slice(more)
+            }
+            _ => {
+                self.bytes = None;
+                Ok(())
+            }
         }
-        let so_far = self.bytes.len();
-        if so_far > Self::LONGEST || more.len() > Self::LONGEST - so_far {
-            self.bytes.clear();
-            self.over = true;
-            return Ok(());
-        }
-        self.bytes.extend_from_slice(more)
     }
 
     // Takes what a chunk has of the line, and the newline that ends it. For want of memory the line stays as it was.
@@ -61,46 +60,38 @@ impl LineBuffer {
     pub fn take(&mut self, chunk: &[u8]) -> Result<Taken, AllocError>
         ensures taken { IfOk result (λ t. (t.used ≡ used_of chunk.now) × (t.ended ≡ newline_in chunk.now)) }
         ensures line { held self.new ≡ (if is_ok result then add (held self.old) (first_line chunk.now) else held self.old) }
-        ensures chunks { (h : Held) (before : List ℕ) → is_ok result ≡ true → held self.old ≡ add h before → held self.new ≡ add h (before ++ first_line chunk.now) }
+        ensures chunks { (h : Option (List ℕ)) (before : List ℕ) → is_ok result ≡ true → held self.old ≡ add h before → held self.new ≡ add h (before ++ first_line chunk.now) }
     {
         let (line, rest) = split_line(chunk);
         self.add(line)?;
-        if rest.is_empty() {
-            Ok(Taken {
-                used: line.len(),
-                ended: false,
-            })
-        } else {
-            Ok(Taken {
-                used: line.len() + 1,
-                ended: true,
-            })
-        }
+        let ended = !rest.is_empty();
+        Ok(Taken {
+            used: line.len() + usize::from(ended),
+            ended,
+        })
     }
 
     // Whether nothing of the line has come yet.
     pub fn is_empty(&self) -> bool
         ensures { result ≡ nothing_in (held self.now) }
     {
-        !self.over && self.bytes.is_empty()
+        self.line().is_some_and(|bytes| bytes.is_empty())
     }
 
     // The line, or nothing if it is too long.
     pub fn line(&self) -> Option<&[u8]>
-        ensures { option_map (λ x. x.now) result ≡ line_in (held self.now) }
+        ensures { option_map (λ x. x.now) result ≡ held self.now }
     {
-        if self.over {
-            None
-        } else {
-            Some(self.bytes.as_slice())
-        }
+        self.bytes.as_deref()
     }
 
     // The next line begins.
     pub fn begin(&mut self)
         ensures { held self.new ≡ begun }
     {
-        self.bytes.clear();
-        self.over = false;
+        match &mut self.bytes {
+            Some(bytes) => bytes.clear(),
+            None => self.bytes = Some(Vec::new(self.heap)),
+        }
     }
 }
