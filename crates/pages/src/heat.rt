@@ -6,7 +6,7 @@ ghost use Rattle.pages.specs.Heat.{flag, flag_bits, heat_bytes};
 fn flag(flags: &[bool], k: usize) -> bool
     ensures { result ≡ flag flags.now k }
 {
-    k < flags.len() && flags[k]
+    flags.get(k).copied().unwrap_or(false)
 }
 
 // The number whose bits 0 to `count - 1` are the flags from `at` on; flags that are not fitted are 0.
