@@ -1,6 +1,5 @@
 pub mod Back
 pub mod Fronts
 pub mod HeatBits
-pub mod KindsBack
 pub mod PagesBack
 pub mod Sizes

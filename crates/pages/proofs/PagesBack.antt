@@ -1,5 +1,5 @@
 -- The runs of each page, read back.
-use Rattle.std.proofs.Common.{◌≡◌, ℕ, List, [], ◌∷◌, ◌++◌, length, drop, refl, ◌∙◌, append_assoc, arith}
+use Rattle.std.proofs.Common.{◌≡◌, ℕ, List, [], ◌∷◌, ◌++◌, length, drop, refl, ◌∙◌, append_assoc, arith, rules}
 use Rattle.std.proofs.lemmas.List.{length-append}
 use Rattle.std.specs.List.{flat_map}
 use Rattle.parts.specs.Laid.{byte_laid, byte_reads, count_laid, count_reads, fan_laid, fan_reads, slot_laid, slot_reads, supply_laid, supply_reads}
@@ -12,7 +12,6 @@ use Rattle.pages.specs.Into.{laid_front}
 use Rattle.pages.specs.Pages.{Status, door_byte, insertions_page, slots_page, speaker_byte, status_page}
 use Rattle.pages.specs.ReadBack.{InsertionsBack, SlotsBack, StatusBack}
 use Rattle.pages.proofs.Back.{begins, by_counts, run_back}
-use Rattle.pages.proofs.KindsBack.{count_back, fan_back, supply_back}
 use Rattle.pages.proofs.Sizes.{long}
 
 -- where each run of a page of six pieces and a rest stands
@@ -43,8 +42,8 @@ status_back s old new is fit config c counts k =
     let three = third_of a b i d t h rest in
     let five = fifth_of a b i d t h rest in
     record {
-      fans = λ n x m g. by_counts config new Fans n c counts ∙ run_back 1 fan_laid fan_reads (λ y. refl) fan_back new [] _ s.fans 0 0 c.fans (e ∙ two) refl refl k.fans n x m g;
-      supplies = λ n x m g. by_counts config new Supplies n c counts ∙ run_back 1 supply_laid supply_reads (λ y. refl) supply_back new a _ s.supplies _ _ c.supplies (e ∙ two) l.fans k.fans k.supplies n x m g;
+      fans = λ n x m g. by_counts config new Fans n c counts ∙ run_back 1 fan_laid fan_reads (λ y. refl) (λ y. search rules) new [] _ s.fans 0 0 c.fans (e ∙ two) refl refl k.fans n x m g;
+      supplies = λ n x m g. by_counts config new Supplies n c counts ∙ run_back 1 supply_laid supply_reads (λ y. refl) (λ y. search rules) new a _ s.supplies _ _ c.supplies (e ∙ two) l.fans k.fans k.supplies n x m g;
       ids = λ n x m g. by_counts config new Ids n c counts ∙ run_back 1 byte_laid byte_reads (λ y. refl) (λ y. refl) new (a ++ b) _ s.ids _ _ c.slots (e ∙ three) (omega arith) (omega arith) k.slots n x m g;
       temperatures = λ n x m g. by_counts config new Temperatures n c counts ∙ run_back 1 byte_laid byte_reads (λ y. refl) (λ y. refl) new (a ++ b ++ i ++ d) _ s.temperatures _ _ c.sensors (e ∙ five) (omega arith) (omega arith) k.sensors n x m g;
     }
@@ -55,4 +54,4 @@ slots_back slots old new is fit config c counts k n x m h =
 
 pub insertions_back : (counts : List InsertionCount) (old new : List ℕ) → new ≡ laid_front (insertions_page counts) old → InsertionsBack counts old new
 insertions_back counts old new is fit config c is-counts k n x m h =
-    by_counts config new Counts n c is-counts ∙ run_back 2 count_laid count_reads (λ y. refl) count_back new [] _ counts 0 0 c.slots (begins (insertions_page counts) old new is fit) refl refl k n x m h
+    by_counts config new Counts n c is-counts ∙ run_back 2 count_laid count_reads (λ y. refl) (λ y. search rules) new [] _ counts 0 0 c.slots (begins (insertions_page counts) old new is fit) refl refl k n x m h

@@ -36,24 +36,18 @@ impl StatusParts<'_> {
     }
 }
 
-// The byte of the door.
+// The byte of the door: 0 where a lock is fitted and set.
 fn door_byte(lock: Option<bool>) -> u8
     ensures { result ≡ door_byte lock }
 {
-    match lock {
-        Some(true) => 0x00,
-        Some(false) | None => 0x01,
-    }
+    u8::from(lock != Some(true))
 }
 
-// The byte of the speaker.
+// The byte of the speaker: 1 where an alarm is fitted and sounds.
 fn speaker_byte(alarm: Option<bool>) -> u8
     ensures { result ≡ speaker_byte alarm }
 {
-    match alarm {
-        Some(true) => 0x01,
-        Some(false) | None => 0x00,
-    }
+    u8::from(alarm == Some(true))
 }
 
 // Lays the status page and answers its length. Where the buffer is too small, answers `None` and leaves it.
