@@ -2,7 +2,7 @@
 ghost use Rattle.std.specs.Prelude.{◌≡◌};
 ghost use Rattle.enclosure.specs.Conditions.{condition_number};
 ghost use Rattle.backplane.specs.Configured.{asked, at_most_each, kept as keeping};
-ghost use Rattle.backplane.specs.Meaning.{Bounded, condition_of, fits as fitting, senses as sensing};
+ghost use Rattle.backplane.specs.Meaning.{Bounded, condition_of, fits as fitting, has as having, numbers, senses as sensing};
 
 use crate::configuration::{Configuration, Fittings};
 use crate::places::{Input, Output};
@@ -60,19 +60,25 @@ impl Configuration {
         }
     }
 
+    // Whether there is such an output.
+    pub fn has(self, at: Output) -> bool
+        ensures { result ≡ having self at }
+    {
+        let counts = self.counts;
+        match at {
+            Output::Lamp(k) | Output::Connection(k) => k < counts.slots as usize,
+            Output::Speed(k) => k < counts.fans as usize,
+            Output::Supply(k) => k < counts.supplies as usize,
+            Output::Alarm => self.alarm,
+            Output::Lock => self.lock,
+        }
+    }
+
     // Whether there is such an output, and it takes the number.
     pub fn fits(self, at: Output, number: u8) -> bool
         ensures { result ≡ fitting self at number }
     {
-        let counts = self.counts;
-        match at {
-            Output::Lamp(k) => k < counts.slots as usize && number < 8,
-            Output::Connection(k) => k < counts.slots as usize && number < 2,
-            Output::Speed(k) => k < counts.fans as usize && number < 5,
-            Output::Supply(k) => k < counts.supplies as usize && number < 2,
-            Output::Alarm => self.alarm && number < 2,
-            Output::Lock => self.lock && number < 2,
-        }
+        self.has(at) && number < at.numbers()
     }
 
     // Whether there is such an input.
@@ -86,6 +92,19 @@ impl Configuration {
             Input::Supply(k) => k < counts.supplies as usize,
             Input::Temperature(k) => k < counts.sensors as usize,
             Input::OverTemperature(k) => k < counts.sensors as usize + counts.thermostats as usize,
+        }
+    }
+}
+
+impl Output {
+    // How many numbers the output takes.
+    pub fn numbers(self) -> u8
+        ensures { result ≡ numbers self }
+    {
+        match self {
+            Output::Lamp(_) => 8,
+            Output::Speed(_) => 5,
+            Output::Connection(_) | Output::Supply(_) | Output::Alarm | Output::Lock => 2,
         }
     }
 }

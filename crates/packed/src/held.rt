@@ -49,7 +49,7 @@ impl Backplane for Packed<'_> {
     }
 
     fn output(&self, at: Output) -> Option<u8> {
-        if self.parts().fits(at, 0) {
+        if self.parts().has(at) {
             Some(place(at).get(self.image))
         } else {
             None

@@ -110,7 +110,7 @@ impl Backplane for Plain {
     }
 
     fn output(&self, at: Output) -> Option<u8> {
-        if self.parts().fits(at, 0) {
+        if self.parts().has(at) {
             Some(self.tables.get(at))
         } else {
             None
