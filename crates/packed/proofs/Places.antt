@@ -1,9 +1,9 @@
 -- Two fitted outputs are one, or share no bit; so a write of one output leaves all else.
-use Rattle.std.proofs.Common.{◌≡◌, ℕ, ◌<◌, ◌≤◌, Bool, true, false, cond, ◌&&◌, ltb, leb, ◌⊎◌, List, length, MatchResult, is_ok, Ok, Err, Result, sym, refl, ap, ◌∙◌, subst, inl, inr, ⊎_elim, arith, le-ltb, lt-ltb, leb-true}
+use Rattle.std.proofs.Common.{◌≡◌, ℕ, ◌<◌, ◌≤◌, Bool, true, false, cond, ◌&&◌, ltb, leb, List, length, MatchResult, is_ok, Ok, Err, Result, sym, refl, ap, ◌∙◌, subst, ⊎_elim, arith, le-ltb, lt-ltb, leb-true}
 use mathlib.Core.Option.{some}
 use base.Fml.{GName}
 use borrow.Author.Tests.{clash}
-use Rattle.std.proofs.lemmas.Bool.{and_from, and_parts, cases_Bool, cond-false, cond-true, eqb-true}
+use Rattle.std.proofs.lemmas.Bool.{and_from, and_parts, cases_Bool, cond_both, cond-false, cond-true, eqb-true, false_from_ne_true}
 use Rattle.std.proofs.lemmas.Bool.Decides.{nat_tests}
 use Rattle.bits.specs.declared.Cell.{Cell}
 use Rattle.bits.specs.Image.{Put, bit, byte_of, held, limit, within}
@@ -19,9 +19,6 @@ use Rattle.backplane.proofs.Numbered.{same_is, same_self}
 use Rattle.packed.specs.Frame.{inputs_in}
 use Rattle.packed.specs.Layout.{cell_of, fitted, is_output, of_output, other_bits, output_at, outputs_of, value_of}
 
-pub which : (o at : Output) → (o ≡ at) ⊎ (same_output o at ≡ false)
-which o at = ⊎_elim (λ e. inl (same_is o at e)) (λ e. inr e) (cases_Bool (same_output o at))
-
 -- the output of a bit is found again from any of its bits
 pub found : (c : Configuration) → Bounded c → (at : Output) (k : ℕ) → has c at ≡ true → within k (cell_of at) ≡ true → output_at k ≡ at
 found c b (Lamp a) k h g = let b1 = b.slots in grind (arith, nat_tests)
@@ -34,12 +31,8 @@ found c b Lock k h g = ap output_at (eqb-true k 145 g)
 -- so two fitted outputs share no bit
 pub no_bit_shared : (c : Configuration) → Bounded c → (o at : Output) (k : ℕ) → same_output o at ≡ false → has c o ≡ true → has c at ≡ true → within k (cell_of o) ≡ true → within k (cell_of at) ≡ false
 no_bit_shared c b o at k ne h g w =
-    ⊎_elim
-    (λ (v : within k (cell_of at) ≡ true).
-    let is : o ≡ at = sym (found c b o k h w) ∙ found c b at k g v in
-    absurd (clash (sym ne ∙ ap (λ (x : Output). same_output x at) is ∙ same_self at)))
-    (λ v. v)
-    (cases_Bool (within k (cell_of at)))
+    false_from_ne_true (within k (cell_of at))
+    (λ v. clash (sym ne ∙ ap (λ (x : Output). same_output x at) (sym (found c b o k h w) ∙ found c b at k g v) ∙ same_self at))
 
 -- a bit of an output is one of the output that is found there
 pub fitted_there : (c : Configuration) → Bounded c → (k : ℕ) → is_output c k ≡ true → of_output c k ≡ true
@@ -57,15 +50,11 @@ inside c Lock k h g = grind (arith, nat_tests)
 pub outputs_after : (c : Configuration) → Bounded c → (old new : List ℕ) (at : Output) (n : ℕ) → has c at ≡ true → Put old new (cell_of at) n
     → (o : Output) → outputs_of c new o ≡ cond (same_output o at) n (outputs_of c old o)
 outputs_after c b old new at n g w o =
-    ⊎_elim
-    (λ e. ap (outputs_of c new) e ∙ ap (λ t. cond t (held new (cell_of at)) 0) g ∙ w.there
-    ∙ sym (ap (λ x. cond (same_output x at) n (outputs_of c old x)) e ∙ ap (λ t. cond t n (outputs_of c old at)) (same_self at)))
-    (λ ne. ⊎_elim
-    (λ h. ap (λ x. cond (has c o) x 0) (same_held new old (cell_of o) (λ k e. w.bits k (no_bit_shared c b o at k ne h g e))))
-    (λ h. ap (λ t. cond t (held new (cell_of o)) 0) h ∙ sym (ap (λ t. cond t (held old (cell_of o)) 0) h))
-    (cases_Bool (has c o))
-    ∙ sym (cond-false (same_output o at) n _ ne))
-    (which o at)
+    cond_both (same_output o at) n (outputs_of c old o) (λ v. outputs_of c new o ≡ v)
+    (λ e. ap (outputs_of c new) (same_is o at e) ∙ ap (λ t. cond t (held new (cell_of at)) 0) g ∙ w.there)
+    (λ ne. cond_both (has c o) (held new (cell_of o)) 0 (λ v. v ≡ outputs_of c old o)
+    (λ h. same_held new old (cell_of o) (λ k e. w.bits k (no_bit_shared c b o at k ne h g e)) ∙ sym (cond-true (has c o) (held old (cell_of o)) 0 h))
+    (λ h. sym (cond-false (has c o) (held old (cell_of o)) 0 h)))
 
 -- and no bit of another thing does
 pub bits_after : (c : Configuration) (old new : List ℕ) (at : Output) (n : ℕ) → has c at ≡ true → Put old new (cell_of at) n

@@ -3,16 +3,16 @@ use Rattle.std.proofs.Common.{◌≡◌, ℕ, Bool, true, false, cond, ◌&&◌,
 use mathlib.Core.Option.{some}
 use base.Fml.{GName}
 use borrow.Author.Tests.{clash}
-use Rattle.std.proofs.lemmas.Bool.{and_from, and_left, and_parts, and_right, cases_Bool, cond-false, cond-true}
+use Rattle.std.proofs.lemmas.Bool.{and_from, and_left, and_parts, and_right, cases_Bool, cond_both, cond-false, cond-true, false_from_ne_true}
 use Rattle.bits.specs.Image.{bit, bit_at, held, inner, within}
 use Rattle.bits.proofs.Told.{bit_of_held}
 use Rattle.backplane.specs.Meaning.{Bounded, Outputs, Value, altered, fits, has, numbers, put, same_output}
 use Rattle.backplane.specs.Few.{few}
 use Rattle.backplane.specs.declared.configuration.Configuration.{Configuration}
 use Rattle.backplane.specs.declared.places.Output.{Output}
-use Rattle.backplane.proofs.Numbered.{same_self}
+use Rattle.backplane.proofs.Numbered.{same_is, same_self}
 use Rattle.packed.specs.Layout.{bit_of, bit_set, cell_of, fitted, is_output, of_output, other_bits, output_at, outputs_of, value_of}
-use Rattle.packed.proofs.Places.{fitted_there, found, which}
+use Rattle.packed.proofs.Places.{fitted_there, found}
 
 -- the bit that an output's number gives the image
 abbrev pub given_by : Outputs → ℕ → Bool
@@ -27,21 +27,15 @@ output_bit c image k e =
 
 -- a bit of no output that is fitted there is none of an output
 not_there : (c : Configuration) → Bounded c → (k : ℕ) → of_output c k ≡ false → is_output c k ≡ false
-not_there c b k e =
-    ⊎_elim
-    (λ (is : is_output c k ≡ true). absurd (clash (sym e ∙ fitted_there c b k is)))
-    (λ no. no)
-    (cases_Bool (is_output c k))
+not_there c b k e = false_from_ne_true (is_output c k) (λ is. clash (sym e ∙ fitted_there c b k is))
 
 -- so the outputs and the other bits tell the image
 pub bits_told : (c : Configuration) → Bounded c → (old new : List ℕ) (f : Outputs) → outputs_of c new ≡ f → other_bits c new ≡ other_bits c old → (k : ℕ) → bit new k ≡ bit_of c f old k
 bits_told c b old new f outs others k =
-    ⊎_elim
-    (λ e. output_bit c new k e ∙ ap (λ g. given_by g k) outs ∙ sym (cond-true (of_output c k) (given_by f k) (bit old k) e))
+    cond_both (of_output c k) (given_by f k) (bit old k) (λ v. bit new k ≡ v)
+    (λ e. output_bit c new k e ∙ ap (λ g. given_by g k) outs)
     (λ e. let no = not_there c b k e in
-    sym (cond-false (is_output c k) false (bit new k) no) ∙ ap (λ g. g k) others ∙ cond-false (is_output c k) false (bit old k) no
-    ∙ sym (cond-false (of_output c k) (given_by f k) (bit old k) e))
-    (cases_Bool (of_output c k))
+    sym (cond-false (is_output c k) false (bit new k) no) ∙ ap (λ g. g k) others ∙ cond-false (is_output c k) false (bit old k) no)
 
 -- the outputs as they are give the bits as they are
 pub same_bits : (c : Configuration) → Bounded c → (old : List ℕ) (k : ℕ) → bit_of c (outputs_of c old) old k ≡ bit old k
@@ -61,15 +55,11 @@ one_set c b at n old g k =
     ∙ ap (λ (o : Output). bit_at (f o) (inner k (cell_of o))) is
     ∙ ap (λ x. bit_at x (inner k (cell_of at))) (cond-true (same_output at at) n (outputs_of c old at) (same_self at))
     ∙ sym (cond-true (fits c at n && within k (cell_of at)) there (bit old k) (and_from (fits c at n) (within k (cell_of at)) g w)))
-    (λ w. ⊎_elim
-    (λ e. ⊎_elim
-    (λ is. absurd (clash (sym w ∙ ap (λ (o : Output). within k (cell_of o)) (sym is) ∙ (and_parts (has c (output_at k)) (within k (cell_of (output_at k))) e).1)))
-    (λ ne. cond-true (of_output c k) (given_by f k) (bit old k) e
-    ∙ ap (λ x. bit_at x (inner k (cell_of (output_at k)))) (cond-false (same_output (output_at k) at) n (outputs_of c old (output_at k)) ne)
-    ∙ sym (output_bit c old k e))
-    (which (output_at k) at))
-    (λ e. cond-false (of_output c k) (given_by f k) (bit old k) e)
-    (cases_Bool (of_output c k))
+    (λ w. cond_both (of_output c k) (given_by f k) (bit old k) (λ v. v ≡ bit old k)
+    (λ e. let ne : same_output (output_at k) at ≡ false = false_from_ne_true (same_output (output_at k) at)
+    (λ s. clash (sym w ∙ ap (λ (o : Output). within k (cell_of o)) (sym (same_is (output_at k) at s)) ∙ (and_parts (has c (output_at k)) (within k (cell_of (output_at k))) e).1)) in
+    ap (λ x. bit_at x (inner k (cell_of (output_at k)))) (cond-false (same_output (output_at k) at) n (outputs_of c old (output_at k)) ne) ∙ sym (output_bit c old k e))
+    (λ e. refl)
     ∙ sym (cond-false (fits c at n && within k (cell_of at)) there (bit old k) (and_right (fits c at n) (within k (cell_of at)) w)))
     (cases_Bool (within k (cell_of at)))
 

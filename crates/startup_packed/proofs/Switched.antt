@@ -2,7 +2,7 @@
 use Rattle.std.proofs.Common.{◌≡◌, ℕ, cond, ◌&&◌, List, Some, None, sym, ap, ◌∙◌, ⊎_elim}
 use mathlib.Core.Option.{some}
 use base.Fml.{GName}
-use Rattle.std.proofs.lemmas.Bool.{and_from, and_left, and_parts, and_right, cases_Bool, cond-false, cond-true}
+use Rattle.std.proofs.lemmas.Bool.{and_from, and_left, and_parts, and_right, cases_Bool, cond_both, cond-false, cond-true}
 use Rattle.bits.specs.Image.{bit, bit_at, inner, within}
 use Rattle.backplane.specs.Meaning.{Bounded, Outputs, has, sampled}
 use Rattle.backplane.specs.declared.configuration.Configuration.{Configuration}
@@ -20,19 +20,14 @@ bits_started : (c : Configuration) (old : List ℕ) (k : ℕ) → bit_of c (outp
 bits_started c old k =
     let o = output_at k in
     let f = outputs_started c old in
-    ⊎_elim
+    let is = given_by start_number k in
+    cond_both (of_output c k) (given_by f k) (bit old k) (λ v. v ≡ cond (is_started c k) is (bit old k))
     (λ e. let h = (and_parts (has c o) (within k (cell_of o)) e).0 in
-    cond-true (of_output c k) (given_by f k) (bit old k) e
-    ∙ ⊎_elim
-    (λ s. ap (λ x. bit_at x (inner k (cell_of o))) (cond-true (has c o && starts o) (start_number o) (outputs_of c old o) (and_from (has c o) (starts o) h s))
-    ∙ sym (cond-true (is_started c k) (given_by start_number k) (bit old k) (and_from (of_output c k) (starts o) e s)))
-    (λ s. ap (λ x. bit_at x (inner k (cell_of o))) (cond-false (has c o && starts o) (start_number o) (outputs_of c old o) (and_right (has c o) (starts o) s))
-    ∙ sym (output_bit c old k e)
-    ∙ sym (cond-false (is_started c k) (given_by start_number k) (bit old k) (and_right (of_output c k) (starts o) s)))
-    (cases_Bool (starts o)))
-    (λ e. cond-false (of_output c k) (given_by f k) (bit old k) e
-    ∙ sym (cond-false (is_started c k) (given_by start_number k) (bit old k) (and_left (of_output c k) (starts o) e)))
-    (cases_Bool (of_output c k))
+    cond_both (is_started c k) is (bit old k) (λ v. given_by f k ≡ v)
+    (λ s. ap (λ x. bit_at x (inner k (cell_of o))) (cond-true (has c o && starts o) (start_number o) (outputs_of c old o) (and_from (has c o) (starts o) h (and_parts (of_output c k) (starts o) s).1)))
+    (λ s. ap (λ x. bit_at x (inner k (cell_of o))) (cond-false (has c o && starts o) (start_number o) (outputs_of c old o) (and_right (has c o) (starts o) (ap (λ t. t && starts o) (sym e) ∙ s)))
+    ∙ sym (output_bit c old k e)))
+    (λ e. sym (cond-false (is_started c k) is (bit old k) (and_left (of_output c k) (starts o) e)))
 
 -- what is then known of the image
 pub record Told (c : Configuration) (frame old new : List ℕ) (lent held : GName) : Type 0 where
