@@ -22,15 +22,15 @@ pub fn obey<B: Backplane>(memory: &mut Memory, b: &mut B, order: Order<'_>)
             memory.table.store(triples);
             show_slots(b, &memory.table);
         }
-        Order::Operate(k, operation) => {
-            memory.table.operate(k, operation);
-            show_slot(b, k, memory.table.slot(k));
+        Order::Operate { slot, operation } => {
+            memory.table.operate(slot, operation);
+            show_slot(b, slot, memory.table.slot(slot));
         }
-        Order::Speed(k, speed) => {
-            let _ = b.set(Output::Speed(k), speed);
+        Order::Speed { fan, speed } => {
+            let _ = b.set(Output::Speed(fan), speed);
         }
-        Order::Switch(k, on) => {
-            let _ = b.set(Output::Supply(k), on as u8);
+        Order::Switch { supply, on } => {
+            let _ = b.set(Output::Supply(supply), u8::from(on));
         }
         Order::Global(first, second, _) => {
             memory.flags = [first, second % 16, 0];

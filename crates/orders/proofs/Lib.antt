@@ -1,2 +1,1 @@
-mod Ones
 pub mod Sound

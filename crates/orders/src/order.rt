@@ -13,12 +13,9 @@ pub enum Operation {
 pub enum Order<'a> {
     // three bytes for each slot
     Triples(&'a [u8]),
-    // an operation on a slot
-    Operate(usize, Operation),
-    // the speed of a fan
-    Speed(usize, u8),
-    // whether a supply is on
-    Switch(usize, bool),
-    // the three global flags
+    Operate { slot: usize, operation: Operation },
+    Speed { fan: usize, speed: u8 },
+    Switch { supply: usize, on: bool },
+    // the three bytes of global flags
     Global(u8, u8, u8),
 }

@@ -1,43 +1,30 @@
 // Which order bytes are.
-ghost use Rattle.std.specs.Prelude.{◌≡◌, ◌*◌, ◌%◌, ◌≤◌, length};
+ghost use Rattle.std.specs.Prelude.{◌≡◌, ◌%◌, not};
+ghost use Rattle.std.specs.List.{list_all};
 ghost use Rattle.std.specs.Option.{option_map};
-ghost use Rattle.history.specs.Orders.{fan_speed, global_flags, operation_of, order_of, slot_operation, slot_status, sound_below, supply_switch};
+ghost use Rattle.history.specs.Orders.{both_rebuild, fan_speed, global_flags, operation_of, order_of, slot_operation, slot_status, supply_switch, triple_in};
 ghost use Rattle.orders.specs.Decoded.{operation_as, order_as};
 
 use crate::order::{Operation, Order};
-use crate::triples::{has_both_rebuild, next_triple};
+use crate::triples::{has_both_rebuild, row};
 use backplane::configuration::Configuration;
 
-// Whether none of the first `count` triples has both rebuild flags.
-fn are_sound(triples: &[u8], count: usize) -> bool
-    requires { 3 * count ≤ length triples.now }
-    ensures { result ≡ sound_below triples.now count }
+// Whether no triple has both rebuild flags.
+fn are_sound(triples: &[[u8; 3]]) -> bool
+    ensures { result ≡ list_all (λ t. not (both_rebuild (triple_in t 0))) triples.now }
 {
-    let mut rest = triples;
-    for _k in 0..count {
-        let Some((triple, left)) = next_triple(rest) else {
-            return false;
-        };
-        if has_both_rebuild(triple) {
-            return false;
-        }
-        rest = left;
-    }
-    true
+    triples.iter().all(|triple| !has_both_rebuild(row(*triple)))
 }
 
 // The operation that flags ask for: of bits 0 to 2 none or exactly one may be set.
 fn operation(flags: u8) -> Option<Operation>
     ensures { option_map operation_as result ≡ operation_of (flags % 8) }
 {
-    let asked = flags % 8;
-    match asked.count_ones() {
+    match flags % 8 {
         0 => Some(Operation::Idle),
-        1 => Some(match asked {
-            1 => Operation::Prepare,
-            2 => Operation::Release,
-            _ => Operation::Identify,
-        }),
+        1 => Some(Operation::Prepare),
+        2 => Some(Operation::Release),
+        4 => Some(Operation::Identify),
         _ => None,
     }
 }
@@ -46,16 +33,9 @@ fn operation(flags: u8) -> Option<Operation>
 fn slot_status(c: Configuration, bytes: &[u8]) -> Option<Order<'_>>
     ensures { option_map order_as result ≡ slot_status c bytes.now }
 {
-    let slots = c.counts.slots as usize;
-    let end = 3 * slots + 1;
-    if bytes.len() < end {
-        return None;
-    }
-    if are_sound(&bytes[1..], slots) {
-        Some(Order::Triples(&bytes[1..end]))
-    } else {
-        None
-    }
+    let end = 3 * usize::from(c.counts.slots) + 1;
+    let triples = bytes.get(1..end)?;
+    are_sound(triples.as_chunks().0).then_some(Order::Triples(triples))
 }
 
 // Order 12h: an operation on a slot.
@@ -63,10 +43,10 @@ fn slot_operation(c: Configuration, bytes: &[u8]) -> Option<Order<'_>>
     ensures { option_map order_as result ≡ slot_operation c bytes.now }
 {
     match bytes {
-        [_, slot, flags, ..] if *slot < c.counts.slots => match operation(*flags) {
-            Some(asked) => Some(Order::Operate(*slot as usize, asked)),
-            None => None,
-        },
+        [_, slot, flags, ..] if *slot < c.counts.slots => Some(Order::Operate {
+            slot: usize::from(*slot),
+            operation: operation(*flags)?,
+        }),
         _ => None,
     }
 }
@@ -76,9 +56,10 @@ fn fan_speed(c: Configuration, bytes: &[u8]) -> Option<Order<'_>>
     ensures { option_map order_as result ≡ fan_speed c bytes.now }
 {
     match bytes {
-        [_, fan, speed, ..] if *fan < c.counts.fans && *speed < 5 => {
-            Some(Order::Speed(*fan as usize, *speed))
-        }
+        [_, fan, speed, ..] if *fan < c.counts.fans && *speed < 5 => Some(Order::Speed {
+            fan: usize::from(*fan),
+            speed: *speed,
+        }),
         _ => None,
     }
 }
@@ -88,9 +69,10 @@ fn supply_switch(c: Configuration, bytes: &[u8]) -> Option<Order<'_>>
     ensures { option_map order_as result ≡ supply_switch c bytes.now }
 {
     match bytes {
-        [_, supply, on, ..] if *supply < c.counts.supplies && *on < 2 => {
-            Some(Order::Switch(*supply as usize, *on == 1))
-        }
+        [_, supply, on, ..] if *supply < c.counts.supplies && *on < 2 => Some(Order::Switch {
+            supply: usize::from(*supply),
+            on: *on == 1,
+        }),
         _ => None,
     }
 }

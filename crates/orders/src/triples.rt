@@ -1,9 +1,17 @@
 // The triples of an order 10h.
 ghost use Rattle.std.specs.Prelude.{◌≡◌};
-ghost use Rattle.history.specs.Orders.{both_rebuild, flagged, sound_below, stored, triple_in};
-ghost use Rattle.orders.specs.Decoded.{first_of, parted};
+ghost use Rattle.history.specs.Orders.{both_rebuild, flagged, stored, triple_in};
 
+use enclosure::record::SlotRecord;
 use enclosure::record::rows::Row;
+
+// The row of a triple.
+pub fn row(triple: [u8; 3]) -> Row
+    ensures { result ≡ triple_in triple 0 }
+{
+    let [flags, more, last] = triple;
+    Row { flags, more, last }
+}
 
 // Whether one of its ten flags is set.
 pub fn is_flagged(triple: Row) -> bool
@@ -12,11 +20,11 @@ pub fn is_flagged(triple: Row) -> bool
     triple.flags != 0 || triple.more % 4 != 0
 }
 
-// Whether it has both rebuild flags.
+// Whether it has both rebuild flags, so that what is stored of it is no record.
 pub fn has_both_rebuild(triple: Row) -> bool
     ensures { result ≡ both_rebuild triple }
 {
-    (triple.flags >> 2) % 2 == 1 && (triple.more >> 1) % 2 == 1
+    SlotRecord::try_from(to_store(triple)).is_err()
 }
 
 // The record that it becomes: reserved bits are 0.
@@ -24,25 +32,8 @@ pub fn to_store(triple: Row) -> Row
     ensures { result ≡ stored triple }
 {
     Row {
-        flags: triple.flags,
         more: triple.more % 4,
         last: 0,
-    }
-}
-
-// The first triple, and the rest; nothing where under three bytes are left.
-pub fn next_triple(bytes: &[u8]) -> Option<(Row, &[u8])>
-    ensures { parted result ≡ first_of bytes.now }
-{
-    match bytes {
-        [flags, more, last, rest @ ..] => Some((
-            Row {
-                flags: *flags,
-                more: *more,
-                last: *last,
-            },
-            rest,
-        )),
-        _ => None,
+        ..triple
     }
 }

@@ -6,7 +6,7 @@ ghost use Rattle.table.specs.Table.{counts_of, slots_of};
 
 use crate::rows::Table;
 use enclosure::record::rows::Row;
-use orders::triples::next_triple;
+use orders::triples::row;
 
 impl Table {
     // Slot `k` after a triple for it.
@@ -22,13 +22,9 @@ impl Table {
         ensures slots { (j : ℕ) → j < 14 → slots_of self.new j ≡ (if nat_lt (3 * j + 2) (length triples.now) then replaced (triple_in triples.now j) (slots_of self.old j) else slots_of self.old j) }
         ensures counts { counts_of self.new ≡ counts_of self.old }
     {
-        let mut rest = triples;
-        for k in 0..14 {
-            let Some((triple, left)) = next_triple(rest) else {
-                return;
-            };
-            self.replace(k, triple);
-            rest = left;
+        let (whole, _) = triples.as_chunks();
+        for (k, triple) in whole.iter().enumerate() {
+            self.replace(k, row(*triple));
         }
     }
 }
