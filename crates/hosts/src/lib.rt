@@ -35,16 +35,12 @@ impl Host {
     pub fn shown(self) -> Sense
         ensures { result ≡ shown_sense self.sense self.attention }
     {
-        match self.sense {
-            Some(sense) => sense,
-            None => {
-                if self.attention {
-                    Sense::Attention
-                } else {
-                    Sense::Nothing
-                }
-            }
-        }
+        let unasked = if self.attention {
+            Sense::Attention
+        } else {
+            Sense::Nothing
+        };
+        self.sense.unwrap_or(unasked)
     }
 
     // What becomes of the host by a command that comes to a verdict.
@@ -60,16 +56,16 @@ impl Host {
             },
             Verdict::Reject(sense) => Host {
                 sense: Some(sense),
-                attention: self.attention,
+                ..self
             },
             Verdict::ShowSense(_) => Host {
                 sense: None,
                 attention: self.attention && self.sense.is_some(),
             },
-            Verdict::Pass | Verdict::Inquire(_) | Verdict::ShowPage(_, _) | Verdict::Obey(_) =>
+            Verdict::Pass | Verdict::Inquire(_) | Verdict::ShowPage { .. } | Verdict::Obey(_) =>
                 Host {
                     sense: None,
-                    attention: self.attention,
+                    ..self
                 },
         }
     }
@@ -94,20 +90,16 @@ impl Hosts {
     pub fn get(&self, host: u8) -> Host
         ensures { host_as result ≡ hosts_of self.now host }
     {
-        let each: &[Host] = &self.each;
-        let k = host as usize;
-        if k < each.len() {
-            each[k]
-        } else {
-            Host::NOBODY
-        }
+        let kept = self.each.get(usize::from(host));
+        kept.copied().unwrap_or(Host::NOBODY)
     }
 
     // One host after a command that comes to a verdict; all others stay.
     pub fn settle(&mut self, host: u8, verdict: Verdict<'_>)
         ensures { (k : ℕ) → k < 16 → hosts_of self.new k ≡ (if nat_eq k host then on_host (verdict_as verdict.entry) (hosts_of self.old k) else hosts_of self.old k) }
     {
-        let k = host as usize;
+        // By index, since a proof knows only the length of what is written through `get_mut`.
+        let k = usize::from(host);
         if k < 16 {
             self.each[k] = self.each[k].after(verdict);
         }

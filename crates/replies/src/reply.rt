@@ -55,7 +55,7 @@ pub fn reply<B: Backplane>(
         Verdict::MissSense(limit) => send(&sense_bytes(Sense::LogicalUnit), limit as usize, buffer),
         Verdict::Inquire(limit) => send(&inquiry_bytes(0x03, identity), limit as usize, buffer),
         Verdict::ShowSense(limit) => send(&sense_bytes(host.shown()), limit as usize, buffer),
-        Verdict::ShowPage(id, limit) => show_page(b, memory, id, limit, buffer),
+        Verdict::ShowPage { id, limit } => show_page(b, memory, id, limit, buffer),
     };
     Ended {
         status: Status::Good,

@@ -27,10 +27,11 @@ pub enum Verdict<'a> {
     // GOOD, and nothing to do
     Pass,
     Reject(Sense),
-    // INQUIRY and REQUEST SENSE with the length wanted; a page with the length wanted
+    // INQUIRY and REQUEST SENSE with the length wanted
     Inquire(u8),
     ShowSense(u8),
-    ShowPage(u8, usize),
+    // a page and the length wanted; its number is no enum, since any number may be asked of the crate that lays pages
+    ShowPage { id: u8, limit: usize },
     Obey(Order<'a>),
 }
 
@@ -59,7 +60,10 @@ fn by_opcode<'a>(c: Configuration, command: Command<'a>) -> Verdict<'a>
         (0x00 | 0x1D, _, _) => Verdict::Pass,
         (0x3B, 1, _) if command.long_length() == 0 => Verdict::Pass,
         (0x3B, 1, _) => obeying(c, command),
-        (0x3C, 1, id) if is_page(id) => Verdict::ShowPage(id, command.long_length()),
+        (0x3C, 1, id) if is_page(id) => Verdict::ShowPage {
+            id,
+            limit: command.long_length(),
+        },
         (0x3B | 0x3C, _, _) => Verdict::Reject(Sense::Field),
         _ => Verdict::Reject(Sense::Opcode),
     }
