@@ -86,6 +86,7 @@ impl Table {
         ensures slots { (j : ℕ) → j < 14 → slots_of self.new j ≡ (if nat_eq j k then slot_as slot else slots_of self.old j) }
         ensures counts { counts_of self.new ≡ counts_of self.old }
     {
+        // By index, since a proof knows only the length of what is written through `get_mut`.
         if k < 14 {
             self.entries[k].slot = slot;
         }
@@ -96,6 +97,7 @@ impl Table {
         ensures counts { (j : ℕ) → j < 14 → counts_of self.new j ≡ (if nat_eq j k then count else counts_of self.old j) }
         ensures slots { slots_of self.new ≡ slots_of self.old }
     {
+        // By index, as `put`.
         if k < 14 {
             self.entries[k].count = count;
         }

@@ -32,13 +32,9 @@ const NO_FLAGS: Row = Row {
 fn unconfigured(row: Row) -> Row
     ensures { result ≡ unconfigured row }
 {
-    if (row.flags >> 7) % 2 == 1 {
-        row
-    } else {
-        Row {
-            flags: row.flags + 0x80,
-            ..row
-        }
+    Row {
+        flags: row.flags | 0x80,
+        ..row
     }
 }
 

@@ -1,7 +1,0 @@
-use Rattle.std.proofs.Common.{◌≤◌, length, sym, rules}
-use Rattle.std.proofs.lemmas.List.{get_or_past}
-use Rattle.driving.proofs.frames.count_at.Goals as goal
-
-pub returns-else-k-counts : goal.returns-else-k-counts
-returns-else-k-counts c =
-    let l : length c.args.counts.now ≤ c.args.k = search rules in sym (get_or_past c.args.counts.now c.args.k 0 l)
