@@ -5,12 +5,12 @@ use Rattle.answers.specs.declared.status.Status.TheVariants.{Good}
 use Rattle.backplane.specs.Meaning.{Value}
 use Rattle.backplane.specs.declared.configuration.Configuration.{Configuration}
 use Rattle.history.specs.Cdb.{ill_formed, long_length, opcode}
-use Rattle.history.specs.Judgement.{Verdict, refuse, miss, miss_inquiry, miss_sense, attend, pass, reject, inquire, show_sense, show_page, obey, judge, on_host, order_in}
+use Rattle.history.specs.Judgement.{Verdict, show_sense, show_page, judge, on_host, order_in}
 use Rattle.history.specs.Orders.{acted, acted_rest}
 use Rattle.history.specs.Replies.{reply, sense_bytes, shown_sense}
 use Rattle.history.specs.Shelf.{ended, Command, Host, Shelf, Slot, World}
 use Rattle.history.specs.Steps.{commanded, verdict}
-use Rattle.history.proofs.Judged.{Judged, attends, inquires, judged, misses, misses_inquiry, misses_sense, obeys, passes, refuses, rejects, shows_page, shows_sense, writes_nothing}
+use Rattle.history.proofs.Judged.{Judged, judged, obeys}
 use Rattle.replies.specs.Answered.{answer_to, is_refusal}
 use Rattle.processor.specs.Settled.{flags_by, slots_by, value_by}
 use Rattle.processor.specs.Tied.{Tied}
@@ -47,19 +47,11 @@ module _ (w : World) (v : Value) (conf : w.configuration ≡ v.configuration) (s
 
   -- the same answer
   pub same_answer : c.host < 16 → (x : Verdict) → answer_to v slots counts flags w.identity x (hosts c.host) ≡ reply w x (s.hosts c.host) s.parts s.rest
-  same_answer l (refuse r) = refl
-  same_answer l miss = refl
-  same_answer l (miss_inquiry n) = refl
-  same_answer l (miss_sense n) = refl
-  same_answer l attend = refl
-  same_answer l pass = refl
-  same_answer l (reject x) = refl
-  same_answer l (inquire n) = refl
   same_answer l (show_sense n) = ap (λ (h : Host). ended Good (take n (sense_bytes (shown_sense h.sense h.attention)))) (t.same_hosts c.host l)
   same_answer l (show_page b n) =
       ap (λ (bs : List ℕ). ended Good (take n bs)) (page_same v slots counts hosts flags s t b)
       ∙ ap (λ (f : Configuration). reply (record { configuration = f; reading = w.reading; identity = w.identity }) (show_page b n) (s.hosts c.host) s.parts s.rest) (sym conf)
-  same_answer l (obey o) = refl
+  same_answer l x = refl
 
   -- the history's shelf by a verdict
   abbrev by_verdict : Verdict → Shelf
@@ -100,18 +92,8 @@ module _ (w : World) (v : Value) (conf : w.configuration ≡ v.configuration) (s
         }
 
     done_by : {a : Bool} {x : Verdict} → Judged v.configuration a c x → Done x
-    done_by refuses e = still e
-    done_by misses e = still e
-    done_by (misses_inquiry _) e = still e
-    done_by (misses_sense _) e = still e
-    done_by (attends _) e = still e
-    done_by (passes _) e = still e
-    done_by (writes_nothing _) e = still e
-    done_by rejects e = still e
-    done_by (inquires _) e = still e
-    done_by (shows_sense _) e = still e
-    done_by (shows_page _) e = still e
     done_by (obeys {o = o} k q) e = obeyed_tied v slots counts hosts flags s few t slots' _ o q e
+    done_by j e = still e
 
     pub settled_tied : (a : Bool) → ((j : ℕ) → j < 14 → slots' j ≡ slots_by (order_in (judge v.configuration a c)) slots j)
         → ((h : ℕ) → h < 16 → hosts' h ≡ cond (eqb h c.host) (on_host (judge v.configuration a c) (hosts h)) (hosts h))

@@ -1,12 +1,12 @@
 -- A command of a shelf follows the history.
-use Rattle.std.proofs.Common.{◌≡◌, ℕ, ◌<◌, ◌≤◌, true, false, cond, eqb, List, Ok, Err, sym, ap, ◌∙◌, subst}
+use Rattle.std.proofs.Common.{◌≡◌, ℕ, ◌<◌, ◌≤◌, true, false, cond, eqb, List, Ok, Err, sym, refl, ap, ◌∙◌, subst}
 use Rattle.std.proofs.lemmas.Bool.{both_ways}
 use Rattle.answers.specs.declared.refusal.Refusal.{Refusal}
 use Rattle.backplane.specs.Meaning.{Value}
 use Rattle.history.specs.Judgement.{Verdict, refuse, judge, on_host, order_in}
 use Rattle.history.specs.Replies.{reply}
 use Rattle.history.specs.Shelf as history
-use Rattle.history.specs.Steps.{commanded, replied, step}
+use Rattle.history.specs.Steps.{replied, step}
 use Rattle.history.proofs.Altered.{refused_alters_nothing}
 use Rattle.hosts.specs.Held.{hosts_of}
 use Rattle.replies.specs.Answered.{answer_to, is_refusal, laid, result_of}
@@ -14,17 +14,9 @@ use Rattle.replies.specs.declared.reply.Ended.{Ended}
 use Rattle.table.specs.Table.{counts_of, slots_of}
 use Rattle.processor.specs.Follows.{Commanded, TiedTo}
 use Rattle.processor.specs.Settled.{flags_by, slots_by, value_by}
-use Rattle.processor.specs.Tied.{Tied}
 use Rattle.processor.specs.declared.state.State.{State}
+use Rattle.processor.proofs.Recast.{recast}
 use Rattle.processor.proofs.Commanding.{admitted, by_same, same_answer, same_verdict, settled_tied}
-
-recast : (v v' : Value) (slots : ℕ → history.Slot) (counts counts' : ℕ → ℕ) (hosts : ℕ → history.Host) (flags flags' : List ℕ) (s s' : history.Shelf)
-    → v' ≡ v → counts' ≡ counts → flags' ≡ flags → s' ≡ s → Tied v slots counts hosts flags s → Tied v' slots counts' hosts flags' s'
-recast v v' slots counts counts' hosts flags flags' s s' a b c d t =
-    subst (λ x. Tied x slots counts' hosts flags' s') (sym a)
-    (subst (λ x. Tied v slots x hosts flags' s') (sym b)
-    (subst (λ x. Tied v slots counts hosts x s') (sym c)
-    (subst (λ x. Tied v slots counts hosts flags x) (sym d) t)))
 
 module _ (w : history.World) (v : Value) (conf : w.configuration ≡ v.configuration) (few : v.configuration.counts.slots ≤ 14) (k : State) (on : k.powered ≡ true) (c : history.Command) where
   abbrev slots : ℕ → history.Slot
@@ -78,8 +70,7 @@ module _ (w : history.World) (v : Value) (conf : w.configuration ≡ v.configura
         lays = f.lays adm.room ∙ ap (λ (y : history.Answer). laid y old) a;
         ties = (
           f.still ∙ on,
-          recast _ v' (slots_of k'.memory.table) counts (counts_of k'.memory.table) (hosts_of k'.hosts) _ k'.memory.flags _ (commanded w s c)
-              f.does f.counts_now f.flags_now (by_same w v conf slots counts hosts k.memory.flags s few t.1 c told q)
+          recast f.does f.counts_now refl f.flags_now (by_same w v conf slots counts hosts k.memory.flags s few t.1 c told q)
               (settled_tied w v conf slots counts hosts k.memory.flags s few t.1 c (slots_of k'.memory.table) (hosts_of k'.hosts) (hosts c.host).attention f.slots_now f.hosts_now),
         );
       }

@@ -1,7 +1,7 @@
 -- A shelf that obeys an order is tied to the history that does.
 use Rattle.std.proofs.Common.{◌≡◌, ℕ, ◌+◌, ◌*◌, ◌%◌, ◌<◌, ◌≤◌, Bool, true, false, cond, ◌&&◌, eqb, ltb, List, [], ◌∷◌, length, get_or, take, drop, Some, sym, refl, ap, ◌∙◌, subst, arith, length-drop, length-take}
 use Rattle.std.proofs.lemmas.Bool.{cond_both, cond-false, cond-true, eqb-true, lt-ltb, ltb-true}
-use Rattle.backplane.specs.Meaning.{Value, altered, has, one, put, same_output}
+use Rattle.backplane.specs.Meaning.{Value, altered, has, numbers, one, put, same_output}
 use Rattle.backplane.specs.declared.configuration.Configuration.{Configuration}
 use Rattle.backplane.specs.declared.places.Output.{Output}
 use Rattle.backplane.specs.declared.places.Output.TheVariants.{Lamp, Connection, Speed, Supply, Alarm, Lock}
@@ -60,15 +60,18 @@ module _ (v : Value) (slots : ℕ → Slot) (counts : ℕ → ℕ) (hosts : ℕ 
           fine = λ j l. act_fine k j (s.parts (slot j)) (t.fine j (back j l));
         }
 
--- one output put
+-- what an output that is put leaves
+put_leaves : {X : Type 0} (f : Value → X) (v : Value) (at : Output) (n : ℕ) → f (altered v at n) ≡ f v → f (put v at n) ≡ f v
+put_leaves f v at n e = cond_both (has v.configuration at && ltb n (numbers at)) _ _ (λ (u : Value). f u ≡ f v) (λ _. e) (λ _. refl)
+
 put_conf : (v : Value) (at : Output) (n : ℕ) → (put v at n).configuration ≡ v.configuration
-put_conf v at n = cond_both (has v.configuration at && ltb n _) _ _ (λ (u : Value). u.configuration ≡ v.configuration) (λ _. refl) (λ _. refl)
+put_conf v at n = put_leaves (λ u. u.configuration) v at n refl
 
 put_ins : (v : Value) (at : Output) (n : ℕ) → (put v at n).inputs ≡ v.inputs
-put_ins v at n = cond_both (has v.configuration at && ltb n _) _ _ (λ (u : Value). u.inputs ≡ v.inputs) (λ _. refl) (λ _. refl)
+put_ins v at n = put_leaves (λ u. u.inputs) v at n refl
 
 put_other : (v : Value) (at o : Output) (n : ℕ) → same_output o at ≡ false → (put v at n).outputs o ≡ v.outputs o
-put_other v at o n e = cond_both (has v.configuration at && ltb n _) _ _ (λ (u : Value). u.outputs o ≡ v.outputs o) (λ _. cond-false (same_output o at) _ _ e) (λ _. refl)
+put_other v at o n e = put_leaves (λ u. u.outputs o) v at n (cond-false (same_output o at) _ _ e)
 
 one_cond : (b on y : Bool) (n : ℕ) → n ≡ one y → cond b (one on) n ≡ one (cond b on y)
 one_cond true on y n e = refl
@@ -100,10 +103,7 @@ module _ (v : Value) (slots : ℕ → Slot) (counts : ℕ → ℕ) (hosts : ℕ 
         outs : (q : Output) → has v.configuration q ≡ true → (value_after (triples told) slots' v).outputs q ≡ output (ordered_shelf v.configuration (triples told) s) q
         outs (Lamp j) h = cond-true (ltb j v.configuration.counts.slots) _ _ h ∙ ap slot_lamp (there j h)
         outs (Connection j) h = cond-true (ltb j v.configuration.counts.slots) _ _ h ∙ ap (λ (x : Slot). one (connected x)) (there j h)
-        outs (Speed j) h = t.same_outputs (Speed j) h
-        outs (Supply j) h = t.same_outputs (Supply j) h
-        outs Alarm h = t.same_outputs Alarm h
-        outs Lock h = t.same_outputs Lock h
+        outs q h = t.same_outputs q h
 
   module _ (bs : List ℕ) (n : ℕ) (o : Operation) (k : Ordered v.configuration bs (operate n o)) where
     twelve_tied : ((j : ℕ) → j < 14 → slots' j ≡ slots_after (operate n o) slots j)
@@ -125,10 +125,7 @@ module _ (v : Value) (slots : ℕ → Slot) (counts : ℕ → ℕ) (hosts : ℕ 
         outs : (q : Output) → has v.configuration q ≡ true → (value_after (operate n o) slots' v).outputs q ≡ output (ordered_shelf v.configuration (operate n o) s) q
         outs (Lamp j) h = shows slot_lamp j (v.outputs (Lamp j)) h (t.same_outputs (Lamp j) h)
         outs (Connection j) h = shows (λ x. one (connected x)) j (v.outputs (Connection j)) h (t.same_outputs (Connection j) h)
-        outs (Speed j) h = t.same_outputs (Speed j) h
-        outs (Supply j) h = t.same_outputs (Supply j) h
-        outs Alarm h = t.same_outputs Alarm h
-        outs Lock h = t.same_outputs Lock h
+        outs q h = t.same_outputs q h
 
   module _ (bs : List ℕ) (n x : ℕ) (k : Ordered v.configuration bs (speed n x)) (l : n < v.configuration.counts.fans) (m : x < 5) where
     thirteen_tied : ((j : ℕ) → j < 14 → slots' j ≡ slots j) → Tied (value_after (speed n x) slots' v) slots' counts hosts flags (ordered_shelf v.configuration (speed n x) s)
@@ -138,12 +135,8 @@ module _ (v : Value) (slots : ℕ → Slot) (counts : ℕ → ℕ) (hosts : ℕ 
         (tied v slots counts hosts flags s few t slots' bs (speed n x) k (altered v (Speed n) x) refl refl (λ j b. e j (omega arith)) refl refl refl outs)
       where
         outs : (q : Output) → has v.configuration q ≡ true → (altered v (Speed n) x).outputs q ≡ output (ordered_shelf v.configuration (speed n x) s) q
-        outs (Lamp j) h = t.same_outputs (Lamp j) h
-        outs (Connection j) h = t.same_outputs (Connection j) h
         outs (Speed j) h = ap (cond (eqb j n) x) (t.same_outputs (Speed j) h)
-        outs (Supply j) h = t.same_outputs (Supply j) h
-        outs Alarm h = t.same_outputs Alarm h
-        outs Lock h = t.same_outputs Lock h
+        outs q h = t.same_outputs q h
 
   module _ (bs : List ℕ) (n : ℕ) (on : Bool) (k : Ordered v.configuration bs (switch n on)) (l : n < v.configuration.counts.supplies) where
     fourteen_tied : ((j : ℕ) → j < 14 → slots' j ≡ slots j) → Tied (value_after (switch n on) slots' v) slots' counts hosts flags (ordered_shelf v.configuration (switch n on) s)
@@ -153,12 +146,8 @@ module _ (v : Value) (slots : ℕ → Slot) (counts : ℕ → ℕ) (hosts : ℕ 
         (tied v slots counts hosts flags s few t slots' bs (switch n on) k (altered v (Supply n) (one on)) refl refl (λ j b. e j (omega arith)) refl refl refl outs)
       where
         outs : (q : Output) → has v.configuration q ≡ true → (altered v (Supply n) (one on)).outputs q ≡ output (ordered_shelf v.configuration (switch n on) s) q
-        outs (Lamp j) h = t.same_outputs (Lamp j) h
-        outs (Connection j) h = t.same_outputs (Connection j) h
-        outs (Speed j) h = t.same_outputs (Speed j) h
         outs (Supply j) h = one_cond (eqb j n) on (s.parts (supply j)) (v.outputs (Supply j)) (t.same_outputs (Supply j) h)
-        outs Alarm h = t.same_outputs Alarm h
-        outs Lock h = t.same_outputs Lock h
+        outs q h = t.same_outputs q h
 
   module _ (bs : List ℕ) (a b e : ℕ) (k : Ordered v.configuration bs (global a b e)) where
     fifteen_tied : ((j : ℕ) → j < 14 → slots' j ≡ slots j) → Tied (value_after (global a b e) slots' v) slots' counts hosts (a ∷ b % 16 ∷ 0 ∷ []) (ordered_shelf v.configuration (global a b e) s)
@@ -184,12 +173,9 @@ module _ (v : Value) (slots : ℕ → Slot) (counts : ℕ → ℕ) (hosts : ℕ 
             let is : put (put v Alarm x) Lock y ≡ altered (put v Alarm x) Lock y = rw (g, one_fits (bit 2 b)) in ap (λ (u : Value). u.outputs Lock) is
 
         outs : (q : Output) → has v.configuration q ≡ true → (put (put v Alarm x) Lock y).outputs q ≡ output (ordered_shelf v.configuration (global a b e) s) q
-        outs (Lamp j) h = kept (Lamp j) refl refl ∙ t.same_outputs (Lamp j) h
-        outs (Connection j) h = kept (Connection j) refl refl ∙ t.same_outputs (Connection j) h
-        outs (Speed j) h = kept (Speed j) refl refl ∙ t.same_outputs (Speed j) h
-        outs (Supply j) h = kept (Supply j) refl refl ∙ t.same_outputs (Supply j) h
         outs Alarm h = put_other (put v Alarm x) Lock Alarm y refl ∙ set_alarm h ∙ sym (ap one (cond-true v.configuration.alarm (bit 0 a) s.rest.alarm h))
         outs Lock h = set_lock h ∙ sym (ap one (cond-true v.configuration.lock (bit 2 b) s.rest.lock h))
+        outs q h = kept q refl refl ∙ t.same_outputs q h
 
   pub obeyed_tied : (bs : List ℕ) (o : Order) → Ordered v.configuration bs o → ((j : ℕ) → j < 14 → slots' j ≡ slots_after o slots j)
       → Tied (value_after o slots' v) slots' counts hosts (flags_after o flags) (ordered_shelf v.configuration o s)

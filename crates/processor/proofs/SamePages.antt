@@ -24,9 +24,6 @@ fitted_same : (f b c : Bool) → (f ≡ true → b ≡ c) → if_fitted f b ≡ 
 fitted_same true b c e = ap (λ x. if_fitted true x) (e refl)
 fitted_same false b c e = refl
 
-same_cond : {A : Type 0} (b : Bool) (x x' y y' : A) → x ≡ x' → y ≡ y' → cond b x y ≡ cond b x' y'
-same_cond b x x' y y' p q = ap₂ (cond b) p q
-
 module _ (v : Value) (slots : ℕ → Slot) (counts : ℕ → ℕ) (hosts : ℕ → Host) (flags : List ℕ) (s : Shelf) (t : Tied v slots counts hosts flags s) where
   supply_same : (k : ℕ) → k < v.configuration.counts.supplies → eqb (v.outputs (Supply k)) 1 ≡ s.parts (supply k)
   supply_same k l = ap (λ n. eqb n 1) (t.same_outputs (Supply k) (lt-ltb k _ l)) ∙ is_one (s.parts (supply k))
@@ -47,8 +44,8 @@ module _ (v : Value) (slots : ℕ → Slot) (counts : ℕ → ℕ) (hosts : ℕ 
   pub page_same : (b : ℕ) → page_bytes v.configuration b (parts_of v slots) (rest_of v counts flags) ≡ page_bytes v.configuration b s.parts s.rest
   page_same b =
       let d = v.configuration.counts.slots in
-      same_cond (eqb b 0) _ _ _ _ refl
-      (same_cond (eqb b 1) _ _ _ _ (ap status_page status_same)
-      (same_cond (eqb b 3) _ _ _ _ (ap insertions_page (listed_same {X = InsertionCount} _ _ d (λ k l. ap {A = ℕ} {B = InsertionCount} (λ n. record { 0 = n }) (t.same_counts k l))))
-      (same_cond (eqb b 4) _ _ _ _ (ap slot_page (listed_same _ _ d (λ k l. t.same_slots k l)))
+      ap₂ (cond (eqb b 0)) refl
+      (ap₂ (cond (eqb b 1)) (ap status_page status_same)
+      (ap₂ (cond (eqb b 3)) (ap insertions_page (listed_same {X = InsertionCount} _ _ d (λ k l. ap {A = ℕ} {B = InsertionCount} (λ n. record { 0 = n }) (t.same_counts k l))))
+      (ap₂ (cond (eqb b 4)) (ap slot_page (listed_same _ _ d (λ k l. t.same_slots k l)))
       (ap global_flags_page t.same_flags))))

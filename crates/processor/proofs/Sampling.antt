@@ -4,7 +4,7 @@ use Rattle.std.proofs.lemmas.Bool.{both_ways, cond-true, lt-ltb, ltb-true}
 use Rattle.backplane.specs.Meaning.{Inputs, Value, has, one, reads_well}
 use Rattle.backplane.specs.Meaning as meaning
 use Rattle.backplane.specs.declared.places.Output.{Output}
-use Rattle.backplane.specs.declared.places.Output.TheVariants.{Lamp, Connection, Speed, Supply, Alarm, Lock}
+use Rattle.backplane.specs.declared.places.Output.TheVariants.{Lamp, Connection}
 use Rattle.enclosure.specs.Slots.{inserted}
 use Rattle.history.specs.Outputs.{connected, output, slot_lamp}
 use Rattle.history.specs.Shelf as history
@@ -18,6 +18,7 @@ use Rattle.table.specs.Table.{counted, counts_of, slots_of}
 use Rattle.processor.specs.Follows.{Called, TiedTo, done_of}
 use Rattle.processor.specs.Tied.{Tied}
 use Rattle.processor.specs.declared.state.State.{State}
+use Rattle.processor.proofs.Recast.{recast}
 
 module _ (v : Value) (slots : ℕ → history.Slot) (counts : ℕ → ℕ) (hosts : ℕ → history.Host) (flags : List ℕ) (s : history.Shelf) (few : v.configuration.counts.slots ≤ 14) (t : Tied v slots counts hosts flags s)
     (q : Inputs) (slots' : ℕ → history.Slot) (counts' : ℕ → ℕ)
@@ -45,10 +46,7 @@ module _ (v : Value) (slots : ℕ → history.Slot) (counts : ℕ → ℕ) (host
   outs : (o : Output) → has v.configuration o ≡ true → value_now.outputs o ≡ output (sampled q s) o
   outs (Lamp k) h = cond-true (ltb k v.configuration.counts.slots) _ _ h ∙ ap slot_lamp (slot_now k (ltb-true k _ h))
   outs (Connection k) h = cond-true (ltb k v.configuration.counts.slots) _ _ h ∙ ap (λ (x : history.Slot). one (connected x)) (slot_now k (ltb-true k _ h))
-  outs (Speed k) h = t.same_outputs (Speed k) h
-  outs (Supply k) h = t.same_outputs (Supply k) h
-  outs Alarm h = t.same_outputs Alarm h
-  outs Lock h = t.same_outputs Lock h
+  outs o h = t.same_outputs o h
 
   pub sampled_tied : Tied value_now slots' counts' hosts flags (sampled q s)
   sampled_tied =
@@ -62,13 +60,6 @@ module _ (v : Value) (slots : ℕ → history.Slot) (counts : ℕ → ℕ) (host
         present = λ k l. (let x = s.parts (history.slot k) in rw (t.present k l) (sampled_in (q.present k) x.row x.state x.identify));
         fine = λ k l. sampled_fine (s.rest.inputs.present k) (q.present k) (s.parts (history.slot k)) (t.fine k l);
       }
-
-retied : (v v' : Value) (slots : ℕ → history.Slot) (counts : ℕ → ℕ) (hosts hosts' : ℕ → history.Host) (flags flags' : List ℕ) (s : history.Shelf)
-    → v' ≡ v → hosts' ≡ hosts → flags' ≡ flags → Tied v slots counts hosts flags s → Tied v' slots counts hosts' flags' s
-retied v v' slots counts hosts hosts' flags flags' s a b c t =
-    subst (λ x. Tied x slots counts hosts' flags' s) (sym a)
-    (subst (λ x. Tied v slots counts x flags' s) (sym b)
-    (subst (λ x. Tied v slots counts hosts x s) (sym c) t))
 
 -- a frame that reads as inputs, sampled
 module _ (w : history.World) (v : Value) (conf : w.configuration ≡ v.configuration) (few : v.configuration.counts.slots ≤ 14) (k k' : State) (on : k.powered ≡ true) (frame : List ℕ) (v₁ v₂ : Value)
@@ -90,7 +81,7 @@ module _ (w : history.World) (v : Value) (conf : w.configuration ≡ v.configura
           let y = shown ∙ ap (λ (u : Value). made_where (slots_below u.configuration.counts.slots) (slot_number (slots_of k'.memory.table)) u) x in
           let z = sampled_tied v (slots_of k.memory.table) (counts_of k.memory.table) (hosts_of k.hosts) k.memory.flags s few t.1 q (slots_of k'.memory.table) (counts_of k'.memory.table) ss cs in
           let tied : Tied v₂ (slots_of k'.memory.table) (counts_of k'.memory.table) (hosts_of k'.hosts) k'.memory.flags (sampled q s)
-          = retied _ v₂ (slots_of k'.memory.table) (counts_of k'.memory.table) (hosts_of k.hosts) (hosts_of k'.hosts) k.memory.flags k'.memory.flags (sampled q s) y (ap hosts_of same_hosts) same_flags z in
+          = recast y refl (ap hosts_of same_hosts) same_flags refl z in
           record {
             says = sym (ap (λ (o : Option Inputs). done_of (sampled_by s o).answer) e);
             ties = subst (TiedTo v₂ k') (sym (ap (λ (o : Option Inputs). (sampled_by s o).state) e)) (still ∙ on, tied);
