@@ -1,12 +1,6 @@
--- Lines gathered from chunks of input.
-use Rattle.std.specs.Prelude.{ℕ, ◌+◌, Bool, false, cond, List, [], ◌++◌, length, Some, None, vec_items, Option, ◌==◌, nat_lt}
-use Rattle.std.specs.Option.{option_map}
+-- Lines gathered from chunks of input: the line so far, or nothing once it is too long.
+use Rattle.std.specs.Prelude.{ℕ, ◌+◌, Bool, false, cond, List, [], ◌++◌, length, Some, None, Option, ◌==◌, nat_lt}
 use Rattle.words.specs.Words.{first_line}
-use Rattle.gathered.specs.declared.LineBuffer.{LineBuffer}
-
--- what the code's buffer holds: the line so far, or nothing if it is too long
-abbrev pub held : LineBuffer → Option (List ℕ)
-held b = option_map vec_items b.bytes
 
 -- a line of which nothing has come yet
 abbrev pub begun : Option (List ℕ)

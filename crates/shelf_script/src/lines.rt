@@ -2,7 +2,7 @@
 ghost use Rattle.std.specs.Prelude.{◌≡◌, is_ok, IfOk, if◌then◌else◌, Some};
 ghost use Rattle.std.specs.Option.{option_map};
 ghost use Rattle.line_calls.specs.Calls.{heard};
-ghost use Rattle.gathered.specs.Gathered.{begun, held as gathered, line_in};
+ghost use Rattle.gathered.specs.Gathered.{begun};
 ghost use Rattle.held_shelf.specs.Kept.{kept, made_shelf};
 ghost use Rattle.shelf_line.specs.ShelfLine.{shelf_of};
 ghost use Rattle.shelf_script.specs.Texts.{call_next, call_spoken, line_next, line_spoken, outputs_spoken, over_spoken, shelf_spoken, spoken, taken_next, taken_spoken};
@@ -106,9 +106,9 @@ pub fn answer(
     number: u64,
     line: &mut LineBuffer,
 ) -> Result<Response, AllocError>
-    ensures said { IfOk result (λ x. spoken x ≡ taken_spoken number (option_map kept held.old) (line_in (gathered line.old))) }
-    ensures next { option_map kept held.new ≡ (if is_ok result then taken_next (option_map kept held.old) (line_in (gathered line.old)) else option_map kept held.old) }
-    ensures begun { gathered line.new ≡ begun }
+    ensures said { IfOk result (λ x. spoken x ≡ taken_spoken number (option_map kept held.old) line.old) }
+    ensures next { option_map kept held.new ≡ (if is_ok result then taken_next (option_map kept held.old) line.old else option_map kept held.old) }
+    ensures begun { line.new ≡ begun }
 {
     let said = match line.line() {
         Some(bytes) => respond(heap, held, number, bytes),
