@@ -29,10 +29,9 @@ impl PartCounts {
         ensures { result ≡ in_range self }
     {
         self.fans <= Self::MOST_FANS
-            && (self.supplies <= Self::MOST_SUPPLIES
-                && (self.slots >= Self::FEWEST_SLOTS
-                    && (self.slots <= Self::MOST_SLOTS
-                        && (self.sensors <= Self::MOST_SENSORS
-                            && self.thermostats <= Self::MOST_THERMOSTATS))))
+            && self.supplies <= Self::MOST_SUPPLIES
+            && (Self::FEWEST_SLOTS..=Self::MOST_SLOTS).contains(&self.slots)
+            && self.sensors <= Self::MOST_SENSORS
+            && self.thermostats <= Self::MOST_THERMOSTATS
     }
 }
