@@ -15,6 +15,7 @@ fn flag_bits(flags: &[bool], at: usize, count: usize) -> u8
     ensures bits { result ≡ flag_bits flags.now at count }
     ensures below { result < 2 ^ count }
 {
+    // `k` is the number of a bit, and of a flag that may not be fitted, so it is counted and not taken from the slice.
     let mut bits = 0;
     for k in 0..count {
         if flag(flags, at + k) {
