@@ -46,6 +46,7 @@ pub fn lay_run<P: Part>(parts: &[P], page: &mut [u8], at: usize) -> Option<usize
 }
 
 // Lays a run of parts from `at` on, where it has room, and answers the place after it.
+// Page and place are no struct: it would hold the page by `&mut`, have no invariant, and ask for room at each call all the same.
 pub fn put_run<P: Part>(parts: &[P], page: &mut [u8], at: usize) -> usize
     requires { at + length parts.now * P.Part.WIDTH ≤ length page.old }
     ensures place { result ≡ at + length parts.now * P.Part.WIDTH }

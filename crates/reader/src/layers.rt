@@ -20,6 +20,7 @@ fn part<P: Part>(page: &[u8], start: usize, number: usize) -> Result<P, Fault>
 }
 
 // The page layer: where part `number` of a run of `count` parts that begins at `start` stands, and its bytes.
+// Start and count are no struct, since only `read_part` below pairs them, once for each run.
 fn in_run<P: Part + Drop>(
     page: &[u8],
     start: usize,
