@@ -14,7 +14,7 @@ pub struct Command<'a> {
     pub room: usize,
 }
 
-// Whether commands with this opcode have a CDB of 6 bytes.
+// Whether commands with this opcode have a CDB of 6 bytes. Opcodes stay bytes here: any byte may come, and an enum would name each of the six a second time.
 fn is_short(opcode: u8) -> bool
     ensures { result ≡ is_short opcode }
 {

@@ -87,7 +87,7 @@ fn global_flags(bytes: &[u8]) -> Option<Order<'_>>
     }
 }
 
-// The order that bytes are, for a shelf with this configuration.
+// The order that bytes are, for a shelf with this configuration. Its first byte is a code that is read here alone.
 pub fn read_order(c: Configuration, bytes: &[u8]) -> Option<Order<'_>>
     ensures { option_map order_as result ≡ order_of c bytes.now }
 {

@@ -15,6 +15,7 @@ use cdb::Command;
 use orders::order::Order;
 use orders::reading::read_order;
 
+// A refusal is a verdict and no error beside it, since those who take verdicts take any.
 #[derive(Clone, Copy)]
 pub enum Verdict<'a> {
     Refuse(Refusal),
