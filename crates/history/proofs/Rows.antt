@@ -32,7 +32,7 @@ none_past d xs n h =
     let b : get_or (take (3 * d) xs) (3 * n + 1) 0 ≡ 0 = get_or_past (take (3 * d) xs) (3 * n + 1) 0 (simp length-take (omega arith)) in
     rw (a, b)
 
-operated_row : (o : Operation) (x : Slot) → (operated o x).row ≡ x.row
+pub operated_row : (o : Operation) (x : Slot) → (operated o x).row ≡ x.row
 operated_row idle x = refl
 operated_row prepare x = refl
 operated_row release x = refl

@@ -6,9 +6,9 @@ use Rattle.enclosure.specs.Flags.{sound}
 use Rattle.enclosure.specs.Records.{record_if, record_of}
 use Rattle.enclosure.specs.declared.record.rows.Row.{Row}
 use Rattle.history.specs.Kept.{Fine}
-use Rattle.history.specs.Orders.{Operation, idle, prepare, release, identify, both_rebuild, flagged, operated}
+use Rattle.history.specs.Orders.{Operation, both_rebuild, flagged, operated}
 use Rattle.history.specs.Shelf as history
-use Rattle.history.proofs.Rows.{fine_stored}
+use Rattle.history.proofs.Rows.{fine_stored, operated_row}
 use Rattle.history.proofs.Tables.{set_at}
 use Rattle.table.specs.Entries.{AllRecords, entry_at, vacant}
 use Rattle.table.specs.Rows.{replaced, slot_as}
@@ -26,10 +26,7 @@ pub fine_told : (s : Slot) (h : history.Slot) → slot_as s ≡ h → Fine h.row
 fine_told s h e fine = subst (λ (x : history.Slot). Fine x.row) (sym e) fine
 
 pub fine_operated : (o : Operation) (s : history.Slot) → Fine s.row → Fine (operated o s).row
-fine_operated idle s fine = fine
-fine_operated prepare s fine = fine
-fine_operated release s fine = fine
-fine_operated identify s fine = fine
+fine_operated o s fine = subst Fine (sym (operated_row o s)) fine
 
 pub fine_replaced : (t : Row) (s : history.Slot) → Fine s.row → Fine (replaced t s).row
 fine_replaced t s fine =
