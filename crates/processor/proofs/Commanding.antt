@@ -1,8 +1,8 @@
 -- A command does to a shelf what it does to the history.
-use Rattle.std.proofs.Common.{◌≡◌, ℕ, ◌<◌, ◌≤◌, Bool, true, false, cond, ◌&&◌, eqb, ltb, List, length, take, sym, refl, ap, ◌∙◌, inl, inr, arith}
+use Rattle.std.proofs.Common.{Option, ◌≡◌, ℕ, ◌<◌, ◌≤◌, Bool, true, false, cond, ◌&&◌, eqb, ltb, List, length, take, sym, refl, ap, ◌∙◌, inl, inr, arith}
 use Rattle.std.proofs.lemmas.Bool.{both_ways, cases_lt, cond_both, lt-ltb, ltb-false}
 use Rattle.answers.specs.declared.status.Status.TheVariants.{Good}
-use Rattle.backplane.specs.Meaning.{Value}
+use Rattle.backplane.specs.Meaning.{Inputs, Value}
 use Rattle.backplane.specs.declared.configuration.Configuration.{Configuration}
 use Rattle.history.specs.Cdb.{ill_formed, long_length, opcode}
 use Rattle.history.specs.Judgement.{Verdict, show_sense, show_page, judge, on_host, order_in}
@@ -36,11 +36,14 @@ admitted f a c =
     cond_both (ltb c.room 64) _ _ (Admits c) (λ _ e. no e) λ r _.
     record { host = omega (arith, ltb-false 15 c.host h); room = ltb-false c.room 64 r }
 
-module _ (w : World) (v : Value) (conf : w.configuration ≡ v.configuration) (slots : ℕ → Slot) (counts : ℕ → ℕ) (hosts : ℕ → Host) (flags : List ℕ) (s : Shelf)
+module _ (reading : List ℕ → Option Inputs) (identity : List ℕ) (v : Value) (slots : ℕ → Slot) (counts : ℕ → ℕ) (hosts : ℕ → Host) (flags : List ℕ) (s : Shelf)
     (few : v.configuration.counts.slots ≤ 14) (t : Tied v slots counts hosts flags s) (c : Command) where
+  abbrev w : World
+  w = record { configuration = v.configuration; reading = reading; identity = identity }
+
   -- the same verdict
   pub same_verdict : verdict w s c ≡ judge v.configuration (hosts c.host).attention c
-  same_verdict = ap (λ (f : Configuration). judge f (s.hosts c.host).attention c) conf ∙ elim (cases_lt c.host 16) [
+  same_verdict = elim (cases_lt c.host 16) [
     | inl l ↦ ap (λ (h : Host). judge v.configuration h.attention c) (sym (t.same_hosts c.host l))
     | inr g ↦ (let b = lt-ltb 15 c.host (omega arith) in rw b)
   ]
@@ -48,9 +51,7 @@ module _ (w : World) (v : Value) (conf : w.configuration ≡ v.configuration) (s
   -- the same answer
   pub same_answer : c.host < 16 → (x : Verdict) → answer_to v slots counts flags w.identity x (hosts c.host) ≡ reply w x (s.hosts c.host) s.parts s.rest
   same_answer l (show_sense n) = ap (λ (h : Host). ended Good (take n (sense_bytes (shown_sense h.sense h.attention)))) (t.same_hosts c.host l)
-  same_answer l (show_page b n) =
-      ap (λ (bs : List ℕ). ended Good (take n bs)) (page_same v slots counts hosts flags s t b)
-      ∙ ap (λ (f : Configuration). reply (record { configuration = f; reading = w.reading; identity = w.identity }) (show_page b n) (s.hosts c.host) s.parts s.rest) (sym conf)
+  same_answer l (show_page b n) = ap (λ (bs : List ℕ). ended Good (take n bs)) (page_same v slots counts hosts flags s t b)
   same_answer l x = refl
 
   -- the history's shelf by a verdict
@@ -63,13 +64,7 @@ module _ (w : World) (v : Value) (conf : w.configuration ≡ v.configuration) (s
       }
 
   pub by_same : (x : Verdict) → verdict w s c ≡ x → commanded w s c ≡ by_verdict x
-  by_same x e =
-      ap (λ (f : Configuration). record {
-        parts = λ p. acted (order_in (verdict w s c)) p (s.parts p);
-        hosts = λ h. cond (eqb h c.host) (on_host (verdict w s c) (s.hosts h)) (s.hosts h);
-        rest = acted_rest f (order_in (verdict w s c)) s.rest;
-      }) conf
-      ∙ ap by_verdict e
+  by_same x e = ap by_verdict e
 
   module _ (slots' : ℕ → Slot) (hosts' : ℕ → Host) where
     abbrev ordered : Verdict → Shelf

@@ -62,7 +62,7 @@ module _ (v : Value) (slots : ℕ → history.Slot) (counts : ℕ → ℕ) (host
       }
 
 -- a frame that reads as inputs, sampled
-module _ (w : history.World) (v : Value) (conf : w.configuration ≡ v.configuration) (few : v.configuration.counts.slots ≤ 14) (k k' : State) (on : k.powered ≡ true) (frame : List ℕ) (v₁ v₂ : Value)
+module _ (w : history.World) (v : Value) (few : v.configuration.counts.slots ≤ 14) (k k' : State) (on : k.powered ≡ true) (frame : List ℕ) (v₁ v₂ : Value)
     (well : reads_well (w.reading frame) ≡ true) (seen : v₁ ≡ meaning.sampled v (w.reading frame))
     (slots_now : (j : ℕ) → j < 14 → slots_of k'.memory.table j ≡ cond (ltb j v₁.configuration.counts.slots) (sampled_slot (inserted (slots_of k.memory.table j).state) (v₁.inputs.present j) (slots_of k.memory.table j)) (slots_of k.memory.table j))
     (counts_now : (j : ℕ) → j < 14 → counts_of k'.memory.table j ≡ cond (ltb j v₁.configuration.counts.slots) (counted (inserted (slots_of k.memory.table j).state) (v₁.inputs.present j) (counts_of k.memory.table j)) (counts_of k.memory.table j))

@@ -1,9 +1,8 @@
-use Rattle.std.proofs.Common.{◌≡◌, true, length, sym, refl, ap, ◌∙◌, rules}
+use Rattle.std.proofs.Common.{◌≡◌, true, length, sym, ap, ◌∙◌, rules}
 use Rattle.history.specs.Judgement.{judge}
 use Rattle.history.specs.Shelf.{Command}
 use Rattle.hosts.specs.Held.{hosts_of}
 use Rattle.verdicts.specs.Judged.{verdict_as}
-use Rattle.processor.specs.Follows.{world_of}
 use Rattle.processor.proofs.NotRefused.{not_refused}
 use Rattle.processor.proofs.Following.{Facts, done_follows, refused_follows}
 use Rattle.processor.proofs.shelf.Shelf.command.Goals as goal
@@ -13,11 +12,10 @@ returns-in-Refuse-clause-follows g c =
     let v = g.B.Backplane.value c.args.self.now.backplane.now in
     let k = c.args.self.now.state in
     let cmd : Command = record { host = c.args.host; cdb = c.args.cdb.now; payload = c.args.payload.now; room = length c.args.buffer.now } in
-    let w = world_of g.B.Backplane.reading v k in
     let on : k.powered ≡ true = search rules in
     let j : verdict_as c.judge-verdict.result ≡ judge v.configuration (hosts_of k.hosts c.args.host).attention cmd
     = search rules in
-    λ s t. refused_follows w v refl (g.B.Backplane.bounded c.args.self.now.backplane.now).slots k on cmd c.in-Refuse.refusal (sym j ∙ ap verdict_as c.in-Refuse.is) s t c.args.buffer.now
+    λ s t. refused_follows g.B.Backplane.reading v (g.B.Backplane.bounded c.args.self.now.backplane.now).slots k on cmd c.in-Refuse.refusal (sym j ∙ ap verdict_as c.in-Refuse.is) s t c.args.buffer.now
 
 pub returns-clause-follows : goal.returns-clause-follows
 returns-clause-follows g c =
@@ -25,7 +23,6 @@ returns-clause-follows g c =
     let v = g.B.Backplane.value b in
     let k = c.args.self.now.state in
     let cmd : Command = record { host = c.args.host; cdb = c.args.cdb.now; payload = c.args.payload.now; room = length c.args.buffer.now } in
-    let w = world_of g.B.Backplane.reading v k in
     let on : k.powered ≡ true = search rules in
     let x = verdict_as c.judge-verdict.result in
     let j : x ≡ judge v.configuration (hosts_of k.hosts c.args.host).attention cmd
@@ -34,7 +31,7 @@ returns-clause-follows g c =
     let did = c.settle.ensures in
     let u = g.B.Backplane.value c.settle.new.self.backplane.now in
     let k' = c.settle.new.self.state in
-    let facts : Facts w v refl (g.B.Backplane.bounded b).slots k on cmd u k' c.args.buffer.now c.settle.new.buffer c.settle.result x
+    let facts : Facts g.B.Backplane.reading v (g.B.Backplane.bounded b).slots k on cmd u k' c.args.buffer.now c.settle.new.buffer c.settle.result x
     = record {
       go = go;
       says = did.says go;
@@ -46,4 +43,4 @@ returns-clause-follows g c =
       does = did.does;
       still = did.powered;
     } in
-    λ s t. done_follows w v refl (g.B.Backplane.bounded b).slots k on cmd u k' c.args.buffer.now c.settle.new.buffer c.settle.result x j facts s t
+    λ s t. done_follows g.B.Backplane.reading v (g.B.Backplane.bounded b).slots k on cmd u k' c.args.buffer.now c.settle.new.buffer c.settle.result x j facts s t

@@ -11,5 +11,5 @@ returns-clause-follows g c =
     let w = world_of g.B.Backplane.reading v k in
     let on : k.powered ≡ true = search rules in
     let well : reads_well (w.reading c.args.frame.now) ≡ true = search rules in
-    λ s t. sample_follows w v refl (g.B.Backplane.bounded c.args.self.now.backplane.now).slots k _ on c.args.frame.now (g.B.Backplane.value c.sample.new.self) (g.B.Backplane.value c.show_slots.new.b)
+    λ s t. sample_follows w v (g.B.Backplane.bounded c.args.self.now.backplane.now).slots k _ on c.args.frame.now (g.B.Backplane.value c.sample.new.self) (g.B.Backplane.value c.show_slots.new.b)
     well c.sample.ensures.does c.see_slots.ensures.slots c.see_slots.ensures.counts c.show_slots.ensures refl refl refl s t
