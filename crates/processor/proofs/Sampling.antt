@@ -15,8 +15,9 @@ use Rattle.hosts.specs.Held.{hosts_of}
 use Rattle.showing.specs.Shown.{slot_number, slots_below}
 use Rattle.startup.specs.Started.{made_where}
 use Rattle.table.specs.Table.{counted, counts_of, slots_of}
-use Rattle.processor.specs.Follows.{Called, TiedTo, done_of}
+use Rattle.processor.specs.Follows.{Called, TiedRunning, TiedTo, done_of}
 use Rattle.processor.specs.Tied.{Tied}
+use Rattle.processor.specs.declared.state.Running.{Running}
 use Rattle.processor.specs.declared.state.State.{State}
 use Rattle.processor.proofs.Recast.{recast}
 
@@ -62,27 +63,28 @@ module _ (v : Value) (slots : ℕ → history.Slot) (counts : ℕ → ℕ) (host
       }
 
 -- a frame that reads as inputs, sampled
-module _ (w : history.World) (v : Value) (few : v.configuration.counts.slots ≤ 14) (k k' : State) (on : k.powered ≡ true) (frame : List ℕ) (v₁ v₂ : Value)
+module _ (w : history.World) (v : Value) (few : v.configuration.counts.slots ≤ 14) (k k' : State) (r r' : Running) (on : k.running ≡ Some r) (on' : k'.running ≡ Some r') (frame : List ℕ) (v₁ v₂ : Value)
     (well : reads_well (w.reading frame) ≡ true) (seen : v₁ ≡ meaning.sampled v (w.reading frame))
-    (slots_now : (j : ℕ) → j < 14 → slots_of k'.memory.table j ≡ cond (ltb j v₁.configuration.counts.slots) (sampled_slot (inserted (slots_of k.memory.table j).state) (v₁.inputs.present j) (slots_of k.memory.table j)) (slots_of k.memory.table j))
-    (counts_now : (j : ℕ) → j < 14 → counts_of k'.memory.table j ≡ cond (ltb j v₁.configuration.counts.slots) (counted (inserted (slots_of k.memory.table j).state) (v₁.inputs.present j) (counts_of k.memory.table j)) (counts_of k.memory.table j))
-    (shown : v₂ ≡ made_where (slots_below v₁.configuration.counts.slots) (slot_number (slots_of k'.memory.table)) v₁)
-    (same_hosts : k'.hosts ≡ k.hosts) (same_flags : k'.memory.flags ≡ k.memory.flags) (still : k'.powered ≡ k.powered) where
+    (slots_now : (j : ℕ) → j < 14 → slots_of r'.memory.table j ≡ cond (ltb j v₁.configuration.counts.slots) (sampled_slot (inserted (slots_of r.memory.table j).state) (v₁.inputs.present j) (slots_of r.memory.table j)) (slots_of r.memory.table j))
+    (counts_now : (j : ℕ) → j < 14 → counts_of r'.memory.table j ≡ cond (ltb j v₁.configuration.counts.slots) (counted (inserted (slots_of r.memory.table j).state) (v₁.inputs.present j) (counts_of r.memory.table j)) (counts_of r.memory.table j))
+    (shown : v₂ ≡ made_where (slots_below v₁.configuration.counts.slots) (slot_number (slots_of r'.memory.table)) v₁)
+    (same_hosts : r'.hosts ≡ r.hosts) (same_flags : r'.memory.flags ≡ r.memory.flags) where
   pub sample_follows : (s : history.State) → TiedTo v k s → Called w s (history.sample frame) (Ok tt) v₂ k'
-  sample_follows history.unpowered t = absurd (both_ways k.powered t on)
+  sample_follows history.unpowered t = (let no : ⊥ = cc (on, t) in absurd no)
   sample_follows (history.powered s) t = go (w.reading frame) refl
     where
       go : (o : Option Inputs) → w.reading frame ≡ o → Called w (history.powered s) (history.sample frame) (Ok tt) v₂ k'
       go None e = absurd (both_ways (reads_well (w.reading frame)) (ap reads_well e) well)
       go (Some q) e =
+          let tied_before = subst (λ o. TiedRunning v o s) on t in
           let x : v₁ ≡ meaning.sampled v (Some q) = seen ∙ ap (meaning.sampled v) e in
-          let ss = subst (λ (u : Value). (j : ℕ) → j < 14 → slots_of k'.memory.table j ≡ cond (ltb j u.configuration.counts.slots) (sampled_slot (inserted (slots_of k.memory.table j).state) (u.inputs.present j) (slots_of k.memory.table j)) (slots_of k.memory.table j)) x slots_now in
-          let cs = subst (λ (u : Value). (j : ℕ) → j < 14 → counts_of k'.memory.table j ≡ cond (ltb j u.configuration.counts.slots) (counted (inserted (slots_of k.memory.table j).state) (u.inputs.present j) (counts_of k.memory.table j)) (counts_of k.memory.table j)) x counts_now in
-          let y = shown ∙ ap (λ (u : Value). made_where (slots_below u.configuration.counts.slots) (slot_number (slots_of k'.memory.table)) u) x in
-          let z = sampled_tied v (slots_of k.memory.table) (counts_of k.memory.table) (hosts_of k.hosts) k.memory.flags s few t.1 q (slots_of k'.memory.table) (counts_of k'.memory.table) ss cs in
-          let tied : Tied v₂ (slots_of k'.memory.table) (counts_of k'.memory.table) (hosts_of k'.hosts) k'.memory.flags (sampled q s)
+          let ss = subst (λ (u : Value). (j : ℕ) → j < 14 → slots_of r'.memory.table j ≡ cond (ltb j u.configuration.counts.slots) (sampled_slot (inserted (slots_of r.memory.table j).state) (u.inputs.present j) (slots_of r.memory.table j)) (slots_of r.memory.table j)) x slots_now in
+          let cs = subst (λ (u : Value). (j : ℕ) → j < 14 → counts_of r'.memory.table j ≡ cond (ltb j u.configuration.counts.slots) (counted (inserted (slots_of r.memory.table j).state) (u.inputs.present j) (counts_of r.memory.table j)) (counts_of r.memory.table j)) x counts_now in
+          let y = shown ∙ ap (λ (u : Value). made_where (slots_below u.configuration.counts.slots) (slot_number (slots_of r'.memory.table)) u) x in
+          let z = sampled_tied v (slots_of r.memory.table) (counts_of r.memory.table) (hosts_of r.hosts) r.memory.flags s few tied_before q (slots_of r'.memory.table) (counts_of r'.memory.table) ss cs in
+          let tied : Tied v₂ (slots_of r'.memory.table) (counts_of r'.memory.table) (hosts_of r'.hosts) r'.memory.flags (sampled q s)
           = recast y refl (ap hosts_of same_hosts) same_flags refl z in
           record {
             says = sym (ap (λ (o : Option Inputs). done_of (sampled_by s o).answer) e);
-            ties = subst (TiedTo v₂ k') (sym (ap (λ (o : Option Inputs). (sampled_by s o).state) e)) (still ∙ on, tied);
+            ties = subst (TiedTo v₂ k') (sym (ap (λ (o : Option Inputs). (sampled_by s o).state) e)) (subst (λ o. TiedRunning v₂ o (sampled q s)) (sym on') tied);
           }

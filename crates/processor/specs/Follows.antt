@@ -1,5 +1,5 @@
 -- What a call of a shelf promises: it does as the history of the shelf does.
-use Rattle.std.specs.Prelude.{◌≡◌, ℕ, true, false, List, Ok, Err, Option, Result}
+use Rattle.std.specs.Prelude.{◌≡◌, ℕ, List, Some, None, Ok, Err, Option, Result}
 use Rattle.answers.specs.declared.refusal.Refusal.{Refusal}
 use Rattle.backplane.specs.Meaning.{Inputs, Value}
 use Rattle.backplane.specs.declared.configuration.Configuration.{Configuration}
@@ -10,12 +10,18 @@ use Rattle.replies.specs.Answered.{laid, result_of}
 use Rattle.replies.specs.declared.reply.Ended.{Ended}
 use Rattle.table.specs.Table.{counts_of, slots_of}
 use Rattle.processor.specs.Tied.{Tied}
+use Rattle.processor.specs.declared.state.Running.{Running}
 use Rattle.processor.specs.declared.state.State.{State}
+
+-- what a shelf keeps while it is powered is tied to the history in each component
+abbrev pub TiedRunning : Value → Option Running → history.Shelf → Type 0
+TiedRunning v None s = ⊥
+TiedRunning v (Some r) s = Tied v (slots_of r.memory.table) (counts_of r.memory.table) (hosts_of r.hosts) r.memory.flags s
 
 -- unpowered as the history is, or powered and tied to it in each component
 abbrev pub TiedTo : Value → State → history.State → Type 0
-TiedTo v k history.unpowered = k.powered ≡ false
-TiedTo v k (history.powered s) = (k.powered ≡ true) × Tied v (slots_of k.memory.table) (counts_of k.memory.table) (hosts_of k.hosts) k.memory.flags s
+TiedTo v k history.unpowered = k.running ≡ None
+TiedTo v k (history.powered s) = TiedRunning v k.running s
 
 -- what the history of a shelf knows: its configuration, the reading of its backplane and its identity bytes
 abbrev pub world_of : (Configuration → List ℕ → Option Inputs) → Value → State → history.World

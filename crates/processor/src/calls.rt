@@ -3,12 +3,15 @@ ghost use Rattle.history.specs.Shelf.{power_on, reset, sample};
 ghost use Rattle.processor.specs.Inside.{Follows, IsUnaltered, Keeps};
 
 use crate::shelf::Shelf;
+use crate::state::Running;
 use answers::refusal::Refusal;
 use backplane::interface::Backplane;
 use driving::frames::{see_slots, start_slots};
 use hosts::Hosts;
 use showing::show_slots;
 use startup::switch_on;
+use table::memory::Memory;
+use table::rows::Table;
 
 impl<B: Backplane> Shelf<'_, B> {
     // Powers the shelf on, with an insertion count for each slot.
@@ -25,11 +28,17 @@ impl<B: Backplane> Shelf<'_, B> {
             return Err(Refusal::Counts);
         }
         switch_on(self.backplane, frame).map_err(|_| Refusal::Frame)?;
-        start_slots(&mut self.state.memory.table, &*self.backplane, counts);
-        show_slots(self.backplane, &self.state.memory.table);
-        self.state.memory.flags = [0; 3];
-        self.state.hosts = Hosts::fresh();
-        self.state.powered = true;
+        let mut table = Table::blank();
+        start_slots(&mut table, &*self.backplane, counts);
+        show_slots(self.backplane, &table);
+        let memory = Memory {
+            table,
+            flags: [0; 3],
+        };
+        self.state.running = Some(Running {
+            memory,
+            hosts: Hosts::fresh(),
+        });
         Ok(())
     }
 
@@ -39,12 +48,11 @@ impl<B: Backplane> Shelf<'_, B> {
         ensures refused { IsUnaltered B.Backplane.value result self.old self.new }
         ensures keeps { Keeps B.Backplane.value self.old self.new }
     {
-        if !self.state.powered {
-            return Err(Refusal::Unpowered);
-        }
+        let mut running = self.state.running.ok_or(Refusal::Unpowered)?;
         self.backplane.sample(frame).map_err(|_| Refusal::Frame)?;
-        see_slots(&mut self.state.memory.table, &*self.backplane);
-        show_slots(self.backplane, &self.state.memory.table);
+        see_slots(&mut running.memory.table, &*self.backplane);
+        show_slots(self.backplane, &running.memory.table);
+        self.state.running = Some(running);
         Ok(())
     }
 
@@ -54,10 +62,9 @@ impl<B: Backplane> Shelf<'_, B> {
         ensures refused { IsUnaltered B.Backplane.value result self.old self.new }
         ensures keeps { Keeps B.Backplane.value self.old self.new }
     {
-        if !self.state.powered {
-            return Err(Refusal::Unpowered);
-        }
-        self.state.hosts = Hosts::fresh();
+        let mut running = self.state.running.ok_or(Refusal::Unpowered)?;
+        running.hosts = Hosts::fresh();
+        self.state.running = Some(running);
         Ok(())
     }
 }

@@ -10,6 +10,7 @@ ghost use Rattle.processor.specs.Inside.{FollowsCommand, IsUnaltered, Keeps};
 ghost use Rattle.processor.specs.Settled.{flags_by, slots_by, value_by};
 
 use crate::shelf::Shelf;
+use crate::state::Running;
 use answers::refusal::Refusal;
 use backplane::interface::Backplane;
 use cdb::Command;
@@ -17,35 +18,35 @@ use driving::memory::obey;
 use replies::reply::{Ended, reply};
 use verdicts::{Verdict, judge};
 
-impl<B: Backplane> Shelf<'_, B> {
+impl Running {
     // Settles a command that comes to a verdict and is not refused: answers it, then does what it does to its host and to the shelf.
-    fn settle(&mut self, host: u8, verdict: Verdict<'_>, buffer: &mut [u8]) -> Ended
-        ensures says { is_refusal (verdict_as verdict.entry) ≡ false → 64 ≤ length buffer.old → Ok result ≡ result_of (answer_in (B.Backplane.value self.old.backplane.now) self.old.state.memory self.old.state.identity (verdict_as verdict.entry) (hosts_of self.old.state.hosts host)) }
-        ensures lays { 64 ≤ length buffer.old → buffer.new ≡ laid (answer_in (B.Backplane.value self.old.backplane.now) self.old.state.memory self.old.state.identity (verdict_as verdict.entry) (hosts_of self.old.state.hosts host)) buffer.old }
-        ensures hosts { (k : ℕ) → k < 16 → hosts_of self.new.state.hosts k ≡ (if nat_eq k host then on_host (verdict_as verdict.entry) (hosts_of self.old.state.hosts k) else hosts_of self.old.state.hosts k) }
-        ensures slots { (k : ℕ) → k < 14 → slots_of self.new.state.memory.table k ≡ slots_by (order_in (verdict_as verdict.entry)) (slots_of self.old.state.memory.table) k }
-        ensures counts { counts_of self.new.state.memory.table ≡ counts_of self.old.state.memory.table }
-        ensures flags { self.new.state.memory.flags ≡ flags_by (order_in (verdict_as verdict.entry)) self.old.state.memory.flags }
-        ensures does { B.Backplane.value self.new.backplane.now ≡ value_by (order_in (verdict_as verdict.entry)) (slots_of self.new.state.memory.table) (B.Backplane.value self.old.backplane.now) }
-        ensures powered { self.new.state.powered ≡ self.old.state.powered }
-        ensures keeps { Keeps B.Backplane.value self.old self.new }
+    fn settle<B: Backplane>(
+        &mut self,
+        b: &mut B,
+        identity: &[u8; 36],
+        host: u8,
+        verdict: Verdict<'_>,
+        buffer: &mut [u8],
+    ) -> Ended
+        ensures says { is_refusal (verdict_as verdict.entry) ≡ false → 64 ≤ length buffer.old → Ok result ≡ result_of (answer_in (B.Backplane.value b.old) self.old.memory identity.now (verdict_as verdict.entry) (hosts_of self.old.hosts host)) }
+        ensures lays { 64 ≤ length buffer.old → buffer.new ≡ laid (answer_in (B.Backplane.value b.old) self.old.memory identity.now (verdict_as verdict.entry) (hosts_of self.old.hosts host)) buffer.old }
+        ensures hosts { (k : ℕ) → k < 16 → hosts_of self.new.hosts k ≡ (if nat_eq k host then on_host (verdict_as verdict.entry) (hosts_of self.old.hosts k) else hosts_of self.old.hosts k) }
+        ensures slots { (k : ℕ) → k < 14 → slots_of self.new.memory.table k ≡ slots_by (order_in (verdict_as verdict.entry)) (slots_of self.old.memory.table) k }
+        ensures counts { counts_of self.new.memory.table ≡ counts_of self.old.memory.table }
+        ensures flags { self.new.memory.flags ≡ flags_by (order_in (verdict_as verdict.entry)) self.old.memory.flags }
+        ensures does { B.Backplane.value b.new ≡ value_by (order_in (verdict_as verdict.entry)) (slots_of self.new.memory.table) (B.Backplane.value b.old) }
     {
-        let state = &mut self.state;
-        let ended = reply(
-            &*self.backplane,
-            &state.memory,
-            &state.identity,
-            verdict,
-            state.hosts.get(host),
-            buffer,
-        );
-        state.hosts.settle(host, verdict);
+        let shown = self.hosts.get(host);
+        let ended = reply(&*b, &self.memory, identity, verdict, shown, buffer);
+        self.hosts.settle(host, verdict);
         if let Verdict::Obey(order) = verdict {
-            obey(&mut state.memory, self.backplane, order);
+            obey(&mut self.memory, b, order);
         }
         ended
     }
+}
 
+impl<B: Backplane> Shelf<'_, B> {
     // Takes a command.
     pub(crate) fn command<'a>(
         &mut self,
@@ -59,20 +60,21 @@ impl<B: Backplane> Shelf<'_, B> {
         ensures refused { IsUnaltered B.Backplane.value result self.old self.new }
         ensures keeps { Keeps B.Backplane.value self.old self.new }
     {
-        if !self.state.powered {
-            return Err(Refusal::Unpowered);
-        }
+        let mut running = self.state.running.ok_or(Refusal::Unpowered)?;
         let command = Command {
             host,
             cdb,
             payload,
             room: buffer.len(),
         };
-        let attention = self.state.hosts.get(host).attention;
+        let attention = running.hosts.get(host).attention;
         let verdict = judge(self.backplane.configuration(), attention, command);
         if let Verdict::Refuse(refusal) = verdict {
             return Err(refusal);
         }
-        Ok(self.settle(host, verdict, buffer))
+        let identity = &self.state.identity;
+        let ended = running.settle(self.backplane, identity, host, verdict, buffer);
+        self.state.running = Some(running);
+        Ok(ended)
     }
 }

@@ -8,10 +8,8 @@ use crate::state::State;
 use backplane::configuration::Configuration;
 use backplane::interface::Backplane;
 use backplane::places::Output;
-use hosts::Hosts;
-use table::memory::Memory;
-use table::rows::Table;
 
+// How it is tied to a history stands in the promises of its calls: a type that holds a `&mut` has no invariant of its own.
 #[derive(Drop)]
 pub struct Shelf<'b, B> {
     pub(crate) state: State,
@@ -27,12 +25,7 @@ impl<'b, B: Backplane> Shelf<'b, B> {
         ensures identity { result.state.identity ≡ identity }
     {
         let state = State {
-            powered: false,
-            memory: Memory {
-                table: Table::blank(),
-                flags: [0; 3],
-            },
-            hosts: Hosts::fresh(),
+            running: None,
             identity,
         };
         Shelf { state, backplane }

@@ -2,10 +2,16 @@
 use hosts::Hosts;
 use table::memory::Memory;
 
+// What it keeps while it is powered. A call works on a copy, and stores it once nothing can refuse the call any more.
 #[derive(Clone, Copy)]
-pub struct State {
-    pub(crate) powered: bool,
+pub struct Running {
     pub(crate) memory: Memory,
     pub(crate) hosts: Hosts,
+}
+
+#[derive(Clone, Copy)]
+pub struct State {
+    // Nothing while it is unpowered.
+    pub(crate) running: Option<Running>,
     pub(crate) identity: [u8; 36],
 }
