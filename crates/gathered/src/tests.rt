@@ -11,10 +11,8 @@ fn long_lines(rt: HostRuntime) -> Result<(), Fail> {
     assert!(rt; !line.take(half.as_slice())?.ended);
     let taken = line.take(b"\nx")?;
     assert_eq!(rt; (taken.used, taken.ended), (1, true));
-    match line.line() {
-        Some(bytes) => assert_eq!(rt; bytes.len(), LineBuffer::LONGEST),
-        None => return Err(Fail::new("the line was not kept")),
-    }
+    let kept = line.line().map(|bytes| bytes.len());
+    assert_eq!(rt; kept, Some(LineBuffer::LONGEST));
     line.begin();
     assert!(rt; line.is_empty());
     let _ = line.take(half.as_slice())?;
