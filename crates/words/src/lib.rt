@@ -47,6 +47,7 @@ fn cut(text: &[u8]) -> (Option<&[u8]>, &[u8])
 }
 
 // The words of a line that are still to come.
+// It is copied to look ahead in a line, and a type with a lifetime that is copied has no model: contracts say by `left` what is to come.
 #[derive(Clone, Copy)]
 pub struct Words<'a> {
     rest: &'a [u8],
