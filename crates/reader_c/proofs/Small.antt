@@ -1,5 +1,5 @@
 -- A part that the reader hands out stands at place 200 of its page or before, and takes four bytes at most.
-use Rattle.std.proofs.Common.{◌≡◌, ℕ, ◌+◌, ◌*◌, ◌≤◌, Bool, true, false, cond, ltb, leb, List, length, drop, is_some, Ok, Err, Option, Result, refl, arith, rules, leb-false}
+use Rattle.std.proofs.Common.{◌≡◌, ℕ, ◌+◌, ◌*◌, ◌≤◌, Bool, true, false, cond, ltb, leb, List, length, drop, is_some, Ok, Err, Option, Result, sym, refl, subst, arith, rules, leb-false}
 use Rattle.std.proofs.lemmas.List.{length-take}
 use Rattle.enclosure.specs.Ranges.{in_range}
 use Rattle.enclosure.specs.declared.counts.PartCounts.{PartCounts}
@@ -63,6 +63,9 @@ pub held : (config page : List ℕ) (run : Run) (n : ℕ) → Held (read_part co
 held config page run n =
     and_then_if (ltb (length config) 64) _ _ _ (λ _. tt) (λ _.
     and_then_if (in_range (counts_in config)) _ _ _ (λ e. of_run page run n (counts_in config) (few (counts_in config) e)) (λ _. tt))
+
+pub small : (config page : List ℕ) (run : Run) (n : ℕ) (h : Handed) → Ok h ≡ read_part config page run n → Small h
+small config page run n h e = subst Held (sym e) (held config page run n)
 
 -- every part has room in a buffer of four bytes or more
 pub roomy_answer : (room : ℕ) (r : Result Handed Fault) (x : ℕ) → 4 ≤ room → Held r → x ≡ part_answer room r → x ≡ place_answer r
