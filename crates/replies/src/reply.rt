@@ -15,7 +15,7 @@ use shelf_pages::lay_page;
 use table::memory::Memory;
 use verdicts::Verdict;
 
-// The status of a command, and the number of bytes that it sends.
+// The status of a command, and the number of bytes that it sends. They stand in the caller's buffer, all of which the promise tells; a slice of it that is lent out would leave the rest unsaid.
 #[derive(Clone, Copy)]
 pub struct Ended {
     pub status: Status,

@@ -102,7 +102,7 @@ fn global_flags(flags: [u8; 3], buffer: &mut [u8; 64]) -> &[u8]
     front(buffer, len)
 }
 
-// Lays a page of a shelf at the front of the buffer, and hands it out.
+// Lays a page of a shelf at the front of the buffer, and hands it out. It is asked for by a number and not by an enum, since every number has a page: one that names none has the global flags.
 pub fn lay_page<'p, B: Backplane>(
     b: &B,
     memory: &Memory,
