@@ -6,7 +6,7 @@ use Rattle.std.proofs.lemmas.List.Elements.{All-nil, All-cons, All-head, All-tai
 use Rattle.std.proofs.lemmas.Grind.{common_steps}
 use Rattle.std.proofs.lemmas.List.{nil_from_length}
 use Rattle.std.proofs.lemmas.List.Sums.{fails_before_first, prefix_len-le-length, take_while-cons}
-use Rattle.std.proofs.lemmas.Bool.{cond-true, cond-false, not_from_true, not_from_false, not-false}
+use Rattle.std.proofs.lemmas.Bool.{cond-true, cond-false, not_from_true, not_from_false, not-true, not-false, both_ways}
 use Rattle.std.proofs.lemmas.Bool.Decides.{nat_tests}
 use Rattle.words.specs.Words.{blank, comment, pieces, words, taken, joined_after, joined_by, IsWord}
 
@@ -26,6 +26,9 @@ module _ (test : ℕ → Bool) where
 
   goes_on : (c : ℕ) (cs : List ℕ) → test c ≡ false → before_first test (c ∷ cs) ≡ c ∷ before_first test cs
   goes_on c cs e = take_while-cons (λ x. not (test x)) c cs ∙ cond-true (not (test c)) (c ∷ before_first test cs) [] (not_from_false (test c) e)
+
+  stops_at : (c : ℕ) (cs : List ℕ) → before_first test (c ∷ cs) ≡ [] → test c ≡ true
+  stops_at c cs h = let e = take_while-cons (λ x. not (test x)) c cs in grind (arith, nat_tests)
 
   front_append : (cs rest : List ℕ) → All (λ c. test c ≡ false) cs → before_first test rest ≡ [] → before_first test (cs ++ rest) ≡ cs
   front_append [] rest h e = e
@@ -70,13 +73,9 @@ over_word : (w rest : List ℕ) → All (λ c. blank c ≡ false) w → pieces t
 over_word [] rest h = refl
 over_word (c ∷ w) rest h = piece_on c (w ++ rest) (All-head Ink c w h) ∙ over_word w rest (All-tail Ink c w h)
 
-at_end_at : (c : ℕ) (cs : List ℕ) (b : Bool) → blank c ≡ b → before_first blank (c ∷ cs) ≡ [] → pieces true (c ∷ cs) ≡ pieces false (c ∷ cs)
-at_end_at c cs true e h = piece_gap true c cs e ∙ sym (piece_gap false c cs e)
-at_end_at c cs false e h = let f = goes_on blank c cs e in cc
-
 at_end : (rest : List ℕ) → before_first blank rest ≡ [] → pieces true rest ≡ pieces false rest
 at_end [] h = refl
-at_end (c ∷ cs) h = at_end_at c cs (blank c) refl h
+at_end (c ∷ cs) h = let e = stops_at blank c cs h in piece_gap true c cs e ∙ sym (piece_gap false c cs e)
 
 -- A word up to a blank or the end comes first, and the others come after it.
 word_first : (w rest : List ℕ) → 0 < length w → All (λ c. blank c ≡ false) w → before_first blank rest ≡ [] → pieces false (w ++ rest) ≡ w ∷ pieces false rest
@@ -88,13 +87,9 @@ word_first (c ∷ w) rest some h e =
     piece_new c (w ++ rest) (All-head Ink c w h) ∙ (λ i. front i ∷ (others ∙ end) i)
 
 -- Where no word follows the blanks, nothing does.
-nothing_at : (c : ℕ) (cs : List ℕ) (b : Bool) → blank c ≡ b → before_first blank (c ∷ cs) ≡ [] → before_first (λ d. not (blank d)) (c ∷ cs) ≡ [] → c ∷ cs ≡ []
-nothing_at c cs true e h k = let f = goes_on (λ d. not (blank d)) c cs (not_from_true (blank c) e) in cc
-nothing_at c cs false e h k = let f = goes_on blank c cs e in cc
-
 nothing : (rest : List ℕ) → before_first blank rest ≡ [] → before_first (λ d. not (blank d)) rest ≡ [] → rest ≡ []
 nothing [] h k = refl
-nothing (c ∷ cs) h k = nothing_at c cs (blank c) refl h k
+nothing (c ∷ cs) h k = absurd (both_ways (blank c) (not-true (blank c) (stops_at (λ d. not (blank d)) c cs k)) (stops_at blank c cs h))
 
 -- A text cut at the end of its blanks, and what follows at the end of its first word.
 pub record Cut (text gap rest word past : List ℕ) : Type 0 where
