@@ -1,4 +1,5 @@
-// Which call a line of text is, or what was expected in it.
+// Which call the words of a line are, or what was expected in it, for each program.
 #![tactic(auto)]
 
-pub mod call;
+pub mod question;
+pub mod shelves;

@@ -1,1 +1,2 @@
-pub mod FirstWord
+pub mod Spelled
+pub mod RunNames

@@ -1,15 +1,16 @@
 -- How the words of a line are read, one after another.
-use Rattle.std.specs.Prelude.{◌≡◌, ℕ, Bool, cond, List, [], ◌∷◌, Some, None, Ok, Err, codes, Option, Result}
+use Rattle.std.specs.Prelude.{◌≡◌, ℕ, Bool, true, false, cond, List, [], ◌∷◌, Some, None, Ok, Err, codes, Option, Result}
 use Rattle.std.specs.Option.{option_map}
 use Rattle.std.specs.Str.{bytes_eq}
+use Rattle.digits.specs.Hex.{bytes_read}
+use Rattle.digits.specs.Number.{number_read}
 use Rattle.reader.specs.Numbers.{run_numbered}
 use Rattle.reader.specs.declared.fault.Run.{Run}
 use Rattle.reader.specs.declared.fault.Run.TheVariants.{Fans, Supplies, Ids, Temperatures, Slots, Counts}
-use Rattle.digits.specs.Number.{number_read}
+use Rattle.fields.specs.Texts.{keyword_text}
 use Rattle.fields.specs.declared.expected.Expected.{Expected}
 use Rattle.fields.specs.declared.expected.Expected.TheVariants as expected
 use Rattle.fields.specs.declared.expected.Keyword.{Keyword}
-use Rattle.fields.specs.declared.expected.Keyword.TheVariants as word
 use Rattle.fields.specs.declared.expected.Fault.{Fault}
 use Rattle.fields.specs.declared.expected.Fault.TheVariants.{Memory, Unreadable as Unread}
 use Rattle.fields.specs.declared.expected.Unreadable.{Unreadable}
@@ -52,14 +53,6 @@ word_as e f (w ∷ ws) = from_word e w ws (f w)
 unfoldable pub is_text : List ℕ → List ℕ → Bool
 is_text w text = bytes_eq w text
 
--- the text of each keyword
-abbrev pub keyword_text : Keyword → List ℕ
-keyword_text word.Part = codes "part"
-keyword_text word.Config = codes "config"
-keyword_text word.Page = codes "page"
-keyword_text word.Run = codes "run"
-keyword_text word.Number = codes "number"
-
 -- a word that is the keyword
 abbrev pub keyword_read : Keyword → List ℕ → Option (Unit {0})
 keyword_read k w = cond (is_text w (keyword_text k)) (Some tt) None
@@ -80,3 +73,31 @@ run_read w =
 abbrev pub at_end : List (List ℕ) → Parsed (Unit {0})
 at_end [] = Ok (tt, [])
 at_end (w ∷ ws) = Err (record { expected = expected.End; found = Some w })
+
+-- one reading, and then another of the words that it left
+abbrev pub then_read : {X Y : Type 0} → Parsed X → (X → List (List ℕ) → Parsed Y) → Parsed Y
+then_read (Ok p) k = k p.0 p.1
+then_read (Err b) k = Err b
+
+-- a keyword, which is not kept
+abbrev pub named : {X : Type 0} → Keyword → (List (List ℕ) → Parsed X) → List (List ℕ) → Parsed X
+named name read ws = then_read (word_as (expected.Keyword name) (keyword_read name) ws) (λ _ rest. read rest)
+
+-- a keyword, and the bytes that follow it
+abbrev pub named_bytes : Keyword → List (List ℕ) → Parsed (List ℕ)
+named_bytes name ws = named name (word_as expected.Bytes bytes_read) ws
+
+-- a reading after which no word may be left
+abbrev pub whole : {X : Type 0} → Parsed X → Parsed X
+whole p = then_read p (λ x ws. then_read (at_end ws) (λ _ rest. Ok (x, rest)))
+
+-- the code's answer says the same, its value shown by f; only want of memory is another answer
+abbrev pub Says : {X Y : Type 0} → (X → Y) → Result X Fault → Result Y Bad → Type 0
+Says f (Ok x) p = p ≡ Ok (f x)
+Says f (Err Memory) p = Unit {0}
+Says f (Err (Unread u)) p = p ≡ Err (seen u)
+
+-- whether the next word is the keyword, which is then taken
+abbrev pub given : Keyword → List (List ℕ) → Bool × List (List ℕ)
+given name [] = (false, [])
+given name (w ∷ ws) = cond (is_text w (keyword_text name)) (true, ws) (false, w ∷ ws)

@@ -1,5 +1,6 @@
 // What a line was expected to hold, and what stands there.
 ghost use Rattle.std.specs.Prelude.{◌≡◌};
+ghost use Rattle.fields.specs.Texts.{keyword_text};
 ghost use Rattle.fields.specs.declared.expected.Fault.TheVariants.{Memory, Unreadable as Unread};
 
 use std::alloc::AllocError;
@@ -12,12 +13,57 @@ pub enum Keyword {
     Page,
     Run,
     Number,
+    Shelf,
+    Fans,
+    Supplies,
+    Slots,
+    Sensors,
+    Thermostats,
+    Lock,
+    Alarm,
+    Ids,
+    Identity,
+    Image,
+    Outputs,
+}
+
+impl Keyword {
+    pub fn text(self) -> &'static str
+        ensures { result.now ≡ keyword_text self }
+    {
+        match self {
+            Keyword::Part => "part",
+            Keyword::Config => "config",
+            Keyword::Page => "page",
+            Keyword::Run => "run",
+            Keyword::Number => "number",
+            Keyword::Shelf => "shelf",
+            Keyword::Fans => "fans",
+            Keyword::Supplies => "supplies",
+            Keyword::Slots => "slots",
+            Keyword::Sensors => "sensors",
+            Keyword::Thermostats => "thermostats",
+            Keyword::Lock => "lock",
+            Keyword::Alarm => "alarm",
+            Keyword::Ids => "ids",
+            Keyword::Identity => "identity",
+            Keyword::Image => "image",
+            Keyword::Outputs => "outputs",
+        }
+    }
+}
+
+// The calls that a program knows: questions for parts alone, or those about shelves too.
+#[derive(Clone, Copy)]
+pub enum Calls {
+    Part,
+    Shelves,
 }
 
 #[derive(Clone, Copy)]
 pub enum Expected {
-    // the name of a call
-    Call,
+    // the name of a call, of these
+    Call(Calls),
     Keyword(Keyword),
     // bytes in hexadecimal, or `-`
     Bytes,
@@ -25,6 +71,14 @@ pub enum Expected {
     Run,
     // a number up to this one
     Number(u32),
+    // `plain` or `packed`
+    Kind,
+    // `yes` or `no`
+    YesNo,
+    // the 36 bytes of an identity
+    Identity,
+    // a shelf, made by an earlier line
+    ShelfBefore,
     // the end of the line
     End,
 }

@@ -2,7 +2,7 @@
 ghost use Rattle.std.specs.Prelude.{Some};
 ghost use Rattle.fields.specs.Texts.{expected_text};
 
-use crate::expected::Expected;
+use crate::expected::{Calls, Expected};
 use std::fmt;
 
 impl fmt::Display for Expected {
@@ -10,7 +10,8 @@ impl fmt::Display for Expected {
 
     fn fmt<W: fmt::Write>(&self, f: &mut fmt::Formatter<W>) -> fmt::Result {
         match *self {
-            Expected::Call => write!(f, "a call: `part`"),
+            Expected::Call(Calls::Part) => write!(f, "a call: `part`"),
+            Expected::Call(Calls::Shelves) => write!(f, "a call: `shelf`, `outputs` or `part`"),
             Expected::Keyword(name) => {
                 let text = name.text();
                 write!(f, "`{text}`")
@@ -21,6 +22,10 @@ impl fmt::Display for Expected {
                 "a run: `fans`, `supplies`, `ids`, `temperatures`, `slots`, `counts` or a number up to 255"
             ),
             Expected::Number(most) => write!(f, "a number up to {most}"),
+            Expected::Kind => write!(f, "`plain` or `packed`"),
+            Expected::YesNo => write!(f, "`yes` or `no`"),
+            Expected::Identity => write!(f, "36 bytes: 72 hexadecimal digits"),
+            Expected::ShelfBefore => write!(f, "a `shelf` line before it"),
             Expected::End => write!(f, "the end of the line"),
         }
     }

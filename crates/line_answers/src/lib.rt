@@ -1,15 +1,13 @@
-// The text that answers a call, and the text of a complaint, each behind the number of its line.
+// The text that answers a question, and the text of a complaint, each behind the number of its line.
+// Heap and number stay two parameters: the one goes to the functions that allocate, the other into the text.
 #![tactic(auto)]
 
-ghost use Rattle.std.specs.Prelude.{◌≡◌, IfOk, Some, string_bytes};
-ghost use Rattle.line_fields.specs.Fields.{seen};
-ghost use Rattle.held_shelf.specs.Kept.{kept};
+ghost use Rattle.std.specs.Prelude.{◌≡◌, IfOk, string_bytes};
+ghost use Rattle.fields.specs.Fields.{seen};
 ghost use Rattle.part_line.specs.PartLine.{asked};
-ghost use Rattle.line_answers.specs.Texts.{asked_text, bad_text, held_text, made_text, no_shelf, numbered};
+ghost use Rattle.line_answers.specs.Texts.{asked_text, bad_text, numbered};
 
-use expected::{Expected, Keyword, Unreadable};
-use held_shelf::HeldShelf;
-use outputs_text::listed::Listed;
+use fields::expected::Unreadable;
 use part_line::PartQuestion;
 use printed::{Quoted, Spaced};
 use reader::fault::Found;
@@ -37,30 +35,8 @@ pub fn answer_part(heap: Global, line: u64, question: &PartQuestion) -> Result<S
     }
 }
 
-// That a shelf was made, and its lamps.
-pub fn answer_shelf(heap: Global, line: u64, shelf: &HeldShelf) -> Result<String, AllocError>
-    ensures { IfOk result (λ s. string_bytes s ≡ numbered line (made_text (kept shelf.now))) }
-{
-    let outputs = shelf.outputs(heap)?;
-    let lamps = Listed(outputs.lamps.as_slice());
-    format!(in heap; "{line} shelf: made; lamps {lamps}")
-}
-
-// The outputs of a shelf, and the image of a packed one.
-pub fn answer_outputs(heap: Global, line: u64, shelf: &HeldShelf) -> Result<String, AllocError>
-    ensures { IfOk result (λ s. string_bytes s ≡ numbered line (held_text (kept shelf.now))) }
-{
-    let outputs = shelf.outputs(heap)?;
-    match shelf.image() {
-        Some(image) => {
-            let image = Spaced(image);
-            format!(in heap; "{line} outputs: {outputs}; image {image}")
-        }
-        None => format!(in heap; "{line} outputs: {outputs}"),
-    }
-}
-
 // That a line is unreadable, and why.
+#[tactic(auto, unfolding(crate::specs::Texts::bad_text))]
 pub fn complain(heap: Global, line: u64, why: Unreadable<'_>) -> Result<String, AllocError>
     ensures { IfOk result (λ s. string_bytes s ≡ numbered line (bad_text (seen why.entry))) }
 {
@@ -74,18 +50,4 @@ pub fn complain(heap: Global, line: u64, why: Unreadable<'_>) -> Result<String, 
             "{line} unreadable: expected {expected}, found the end of the line"
         ),
     }
-}
-
-// That a call came before any shelf was made.
-pub fn want_shelf(heap: Global, line: u64, name: Keyword) -> Result<String, AllocError>
-    ensures { IfOk result (λ s. string_bytes s ≡ numbered line (bad_text (no_shelf name))) }
-{
-    complain(
-        heap,
-        line,
-        Unreadable {
-            expected: Expected::ShelfBefore,
-            found: Some(name.text().as_bytes()),
-        },
-    )
 }

@@ -1,25 +1,11 @@
 -- What the words after `part` ask.
-use Rattle.std.specs.Prelude.{ℕ, cond, List, Some, None, Ok, vec_items, codes, Option}
-use Rattle.reader.specs.Numbers.{run_numbered}
+use Rattle.std.specs.Prelude.{ℕ, List, Ok, vec_items}
 use Rattle.reader.specs.declared.fault.Run.{Run}
-use Rattle.reader.specs.declared.fault.Run.TheVariants.{Fans, Supplies, Ids, Temperatures, Slots, Counts}
 use Rattle.digits.specs.Number.{number_read}
-use Rattle.expected.specs.declared.Expected.TheVariants as expected
-use Rattle.expected.specs.declared.Keyword.TheVariants as word
-use Rattle.line_fields.specs.Fields.{Parsed, is_text, named, named_bytes, then_read, whole, word_as}
+use Rattle.fields.specs.declared.expected.Expected.TheVariants as expected
+use Rattle.fields.specs.declared.expected.Keyword.TheVariants as word
+use Rattle.fields.specs.Fields.{Parsed, named, named_bytes, run_read, then_read, whole, word_as}
 use Rattle.part_line.specs.declared.PartQuestion.{PartQuestion}
-
--- a run's number, if it is one
-abbrev pub run_of_number : Option ℕ → Option Run
-run_of_number None = None
-run_of_number (Some n) = Some (run_numbered n)
-
--- a run by its name, or by a number up to 255
-abbrev pub run_read : List ℕ → Option Run
-run_read w =
-    cond (is_text w (codes "fans")) (Some Fans) (cond (is_text w (codes "supplies")) (Some Supplies) (cond (is_text w (codes "ids")) (Some Ids)
-    (cond (is_text w (codes "temperatures")) (Some Temperatures) (cond (is_text w (codes "slots")) (Some Slots) (cond (is_text w (codes "counts")) (Some Counts)
-    (run_of_number (number_read 255 w)))))))
 
 -- which part of a page is wanted
 pub record Asked : Type 0 where

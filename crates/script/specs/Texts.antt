@@ -1,37 +1,11 @@
--- The text that answers a line.
-use Rattle.std.specs.Prelude.{ℕ, Bool, true, false, List, ◌++◌, Some, None, Ok, Err, string_bytes, codes, decimal, Option, Result}
-use Rattle.calls.specs.Calls.{Heard, part, line_read}
-use Rattle.fields.specs.Fields.{Bad}
-use Rattle.fields.specs.Texts.{expected_text}
-use Rattle.reader.specs.Numbers.{fault_number}
-use Rattle.reader.specs.Reads.{Handed, read_part}
-use Rattle.reader.specs.declared.fault.Fault.{Fault}
-use Rattle.printed.specs.Shown.{quoted, spaced}
+-- What is said to a line of a script, and what is held after it, by a reading of calls, what is said to a call and what is held after one.
+use Rattle.std.specs.Prelude.{ℕ, Bool, true, false, List, Some, None, Ok, Err, string_bytes, codes, Option, Result}
+use Rattle.calls.specs.Lines.{line_read}
+use Rattle.fields.specs.Fields.{Bad, Parsed}
+use Rattle.line_answers.specs.Texts.{bad_text, numbered}
 use Rattle.words.specs.Words.{words}
 use Rattle.script.specs.declared.response.Response.{Response}
 use Rattle.script.specs.declared.response.Response.TheVariants as response
-
--- what the reader's answer prints as
-abbrev pub part_text : Result Handed Fault → List ℕ
-part_text (Ok h) = codes "part: place " ++ (decimal h.place ++ (codes ", bytes " ++ spaced h.bytes))
-part_text (Err f) = codes "part: refused " ++ decimal (fault_number f)
-
--- what a call's answer prints as
-abbrev pub answer_text : Heard → List ℕ
-answer_text (part q) = part_text (read_part q.config q.page q.run q.number)
-
--- what was found, in words
-abbrev pub found_text : Option (List ℕ) → List ℕ
-found_text None = codes "the end of the line"
-found_text (Some w) = codes "`" ++ (quoted w ++ codes "`")
-
--- why a line is unreadable
-abbrev pub bad_text : Bad → List ℕ
-bad_text b = codes "unreadable: expected " ++ (expected_text b.expected ++ (codes ", found " ++ found_text b.found))
-
--- an answer begins with the number of its line
-abbrev pub numbered : ℕ → List ℕ → List ℕ
-numbered n text = decimal n ++ (codes " " ++ text)
 
 -- what is said to a line: nothing, an answer, or that it is unreadable
 pub data Spoken : Type 0 where
@@ -39,14 +13,37 @@ pub data Spoken : Type 0 where
   answer : List ℕ → Spoken
   unreadable : List ℕ → Spoken
 
-abbrev pub spoken_to : ℕ → Result (Option Heard) Bad → Spoken
-spoken_to n (Ok None) = nothing
-spoken_to n (Ok (Some call)) = answer (numbered n (answer_text call))
-spoken_to n (Err b) = unreadable (numbered n (bad_text b))
+-- what is said to what line n was read as, where h is held
+abbrev pub spoken_to : {H X : Type 0} → (ℕ → H → X → Spoken) → ℕ → H → Result (Option X) Bad → Spoken
+spoken_to call_spoken n h (Ok None) = nothing
+spoken_to call_spoken n h (Ok (Some call)) = call_spoken n h call
+spoken_to call_spoken n h (Err b) = unreadable (numbered n (bad_text b))
 
--- what is said to line n of a script
-abbrev pub line_spoken : ℕ → List ℕ → Spoken
-line_spoken n line = spoken_to n (line_read (words line))
+-- what is held after it
+abbrev pub next_after : {H X : Type 0} → (H → X → H) → H → Result (Option X) Bad → H
+next_after call_next h (Ok None) = h
+next_after call_next h (Ok (Some call)) = call_next h call
+next_after call_next h (Err b) = h
+
+-- what is said to line n of a script, and what is held after it
+unfoldable pub line_spoken : {H X : Type 0} → (List ℕ → List (List ℕ) → Parsed X) → (ℕ → H → X → Spoken) → ℕ → H → List ℕ → Spoken
+line_spoken call_read call_spoken n h line = spoken_to call_spoken n h (line_read call_read (words line))
+
+unfoldable pub line_next : {H X : Type 0} → (List ℕ → List (List ℕ) → Parsed X) → (H → X → H) → H → List ℕ → H
+line_next call_read call_next h line = next_after call_next h (line_read call_read (words line))
+
+-- what is said to line n if it is too long
+abbrev pub over_spoken : ℕ → Spoken
+over_spoken n = unreadable (numbered n (codes "unreadable: expected a line of at most 1048576 bytes, found a longer one"))
+
+-- the same for a line that was gathered, or was too long
+abbrev pub taken_spoken : {H X : Type 0} → (List ℕ → List (List ℕ) → Parsed X) → (ℕ → H → X → Spoken) → ℕ → H → Option (List ℕ) → Spoken
+taken_spoken call_read call_spoken n h None = over_spoken n
+taken_spoken call_read call_spoken n h (Some line) = line_spoken call_read call_spoken n h line
+
+abbrev pub taken_next : {H X : Type 0} → (List ℕ → List (List ℕ) → Parsed X) → (H → X → H) → H → Option (List ℕ) → H
+taken_next call_read call_next h None = h
+taken_next call_read call_next h (Some line) = line_next call_read call_next h line
 
 -- what the code says
 abbrev pub spoken : Response → Spoken

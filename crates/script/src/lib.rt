@@ -1,9 +1,9 @@
-// Scripts: the text that answers each line.
+// Scripts: what is said to each line, whichever calls a program knows.
 #![tactic(auto)]
 
-pub mod gathered;
 pub mod lines;
+pub mod questions;
 pub mod response;
-pub mod shown;
+pub mod session;
 #[cfg(test)]
 mod tests;

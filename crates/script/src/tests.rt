@@ -1,5 +1,6 @@
-use crate::gathered::LineBuffer;
-use crate::lines::respond;
+use crate::lines::{answer, respond};
+use crate::questions::Questions;
+use gathered::LineBuffer;
 use std::test::Fail;
 
 // What is said to line 7, for lines that are no calls, calls and lines without words.
@@ -64,13 +65,13 @@ fn lines_and_what_is_said(rt: HostRuntime) -> Result<(), Fail> {
         ),
     ];
     for (line, said) in rows {
-        match respond(rt.alloc(), 7, line.as_bytes())?.text() {
+        match respond(&mut Questions, rt.alloc(), 7, line.as_bytes())?.text() {
             Some(text) => assert_eq!(rt; text, said),
             None => return Err(Fail::new("nothing was said")),
         }
     }
     for line in ["", " \t\r", "# part", "  #part"] {
-        let said = respond(rt.alloc(), 7, line.as_bytes())?;
+        let said = respond(&mut Questions, rt.alloc(), 7, line.as_bytes())?;
         assert!(rt; said.text().is_none() && said.is_readable());
     }
     Ok(())
@@ -86,13 +87,13 @@ fn long_lines(rt: HostRuntime) -> Result<(), Fail> {
     assert!(rt; !line.take(half.as_slice())?.ended);
     let taken = line.take(b"\nx")?;
     assert_eq!(rt; (taken.used, taken.ended), (1, true));
-    assert!(rt; line.answer(heap, 1)?.text().is_none());
+    assert!(rt; answer(&mut Questions, heap, 1, &mut line)?.text().is_none());
     assert!(rt; line.is_empty());
     let _ = line.take(half.as_slice())?;
     let _ = line.take(half.as_slice())?;
     let taken = line.take(b"#\n")?;
     assert_eq!(rt; (taken.used, taken.ended), (2, true));
-    let said = line.answer(heap, 2)?;
+    let said = answer(&mut Questions, heap, 2, &mut line)?;
     assert!(rt; !said.is_readable());
     match said.text() {
         Some(text) => assert_eq!(rt;

@@ -4,10 +4,10 @@ use Rattle.std.specs.Option.{option_map}
 use Rattle.digits.specs.Hex.{bytes_read}
 use Rattle.digits.specs.Number.{number_read}
 use Rattle.enclosure.specs.declared.counts.PartCounts.{PartCounts}
-use Rattle.expected.specs.declared.Expected.TheVariants as expected
-use Rattle.expected.specs.declared.Keyword.{Keyword}
-use Rattle.expected.specs.declared.Keyword.TheVariants as word
-use Rattle.line_fields.specs.Fields.{Parsed, given, is_text, named, named_bytes, then_read, whole, word_as}
+use Rattle.fields.specs.declared.expected.Expected.TheVariants as expected
+use Rattle.fields.specs.declared.expected.Keyword.{Keyword}
+use Rattle.fields.specs.declared.expected.Keyword.TheVariants as word
+use Rattle.fields.specs.Fields.{Parsed, given, is_text, named, named_bytes, then_read, whole, word_as}
 use Rattle.shelf_line.specs.declared.Kind.{Kind}
 use Rattle.shelf_line.specs.declared.Kind.TheVariants.{Plain, Packed}
 use Rattle.shelf_line.specs.declared.ShelfAsked.{ShelfAsked}

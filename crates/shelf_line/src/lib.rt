@@ -1,17 +1,17 @@
 // What follows the word `shelf` on a line.
 #![tactic(auto)]
 
-ghost use Rattle.std.specs.Prelude.{◌≡◌, ℕ, vec_items};
+ghost use Rattle.std.specs.Prelude.{◌≡◌, ℕ, MatchResult, Some, vec_items};
+ghost use Rattle.digits.specs.Hex.{Failed};
 ghost use Rattle.words.specs.Words.{left};
-ghost use Rattle.expected.specs.declared.Expected.TheVariants as expected;
-ghost use Rattle.line_fields.specs.Fields.{Told, parsed, word_as};
+ghost use Rattle.fields.specs.declared.expected.Expected.TheVariants as expected;
+ghost use Rattle.fields.specs.Fields.{Told, parsed, word_as};
 ghost use Rattle.shelf_line.specs.ShelfLine.{counts_asked, identity_read, image_asked, kind_read, named_count, named_flag, parts_asked, parts_of, shelf_asked, shelf_of, shelf_words, truth_read};
 
 use digits::hex::{HexFault, read_bytes};
 use enclosure::counts::PartCounts;
-use expected::{Expected, Fault, Keyword, Unreadable};
-use line_fields::reading;
-use line_fields::reading::same;
+use fields::expected::{Expected, Fault, Keyword, Unreadable};
+use fields::reading;
 use std::alloc::Global;
 use words::Words;
 
@@ -45,28 +45,32 @@ const IDENTITY: usize = 36;
 // How many bytes an image has that is not given.
 const IMAGE: usize = 19;
 
+// The kind of backplane that a word names.
+fn kind_named(word: &[u8]) -> Option<Kind>
+    ensures { result ≡ kind_read word.now }
+{
+    match str::from_utf8(word) {
+        Ok("plain") => Some(Kind::Plain),
+        Ok("packed") => Some(Kind::Packed),
+        _ => None,
+    }
+}
+
 // Takes the next word, which is to be a kind of backplane.
 fn read_kind<'a>(words: &mut Words<'a>) -> Result<Kind, Unreadable<'a>>
     ensures { parsed result (left words.new) ≡ word_as expected.Kind kind_read (left words.old) }
 {
-    let expected = Expected::Kind;
-    match words.next() {
-        Some(word) => {
-            if same(word, "plain") {
-                Ok(Kind::Plain)
-            } else if same(word, "packed") {
-                Ok(Kind::Packed)
-            } else {
-                Err(Unreadable {
-                    expected,
-                    found: Some(word),
-                })
-            }
-        }
-        None => Err(Unreadable {
-            expected,
-            found: None,
-        }),
+    reading::word(words, Expected::Kind, kind_named)
+}
+
+// Whether a word is `yes` or `no`.
+fn truth_named(word: &[u8]) -> Option<bool>
+    ensures { result ≡ truth_read word.now }
+{
+    match str::from_utf8(word) {
+        Ok("yes") => Some(true),
+        Ok("no") => Some(false),
+        _ => None,
     }
 }
 
@@ -74,17 +78,11 @@ fn read_kind<'a>(words: &mut Words<'a>) -> Result<Kind, Unreadable<'a>>
 fn truth<'a>(words: &mut Words<'a>) -> Result<bool, Unreadable<'a>>
     ensures { parsed result (left words.new) ≡ word_as expected.YesNo truth_read (left words.old) }
 {
-    match words.next() {
-        Some(word) if same(word, "yes") => Ok(true),
-        Some(word) if same(word, "no") => Ok(false),
-        found => Err(Unreadable {
-            expected: Expected::YesNo,
-            found,
-        }),
-    }
+    reading::word(words, Expected::YesNo, truth_named)
 }
 
 // A keyword, and whether it is so.
+#[tactic(auto, unfolding(crate::specs::ShelfLine::named_flag))]
 fn named_flag<'a>(words: &mut Words<'a>, name: Keyword) -> Result<bool, Unreadable<'a>>
     ensures { parsed result (left words.new) ≡ named_flag name (left words.old) }
 {
@@ -93,6 +91,7 @@ fn named_flag<'a>(words: &mut Words<'a>, name: Keyword) -> Result<bool, Unreadab
 }
 
 // A keyword, and a number up to 255.
+#[tactic(auto, unfolding(crate::specs::ShelfLine::named_count))]
 fn named_count<'a>(words: &mut Words<'a>, name: Keyword) -> Result<u8, Unreadable<'a>>
     ensures { parsed result (left words.new) ≡ named_count name (left words.old) }
 {
@@ -102,6 +101,7 @@ fn named_count<'a>(words: &mut Words<'a>, name: Keyword) -> Result<u8, Unreadabl
 }
 
 // The counts of the parts.
+#[tactic(auto, unfolding(crate::specs::ShelfLine::counts_asked))]
 fn counts<'a>(words: &mut Words<'a>) -> Result<PartCounts, Unreadable<'a>>
     ensures { parsed result (left words.new) ≡ counts_asked (left words.old) }
 {
@@ -119,28 +119,27 @@ fn counts<'a>(words: &mut Words<'a>) -> Result<PartCounts, Unreadable<'a>>
     })
 }
 
+// The bytes of an identity.
+fn read_identity(heap: Global, word: &[u8]) -> Result<Vec<u8>, HexFault>
+    ensures { MatchResult result (λ v. identity_read word.now ≡ Some v.items) (λ e. Failed e (identity_read word.now)) }
+{
+    let bytes = read_bytes(heap, word)?;
+    if bytes.len() == IDENTITY {
+        Ok(bytes)
+    } else {
+        Err(HexFault::NotHex)
+    }
+}
+
 // Takes the next word, which is to be the bytes of an identity.
 fn identity<'a>(heap: Global, words: &mut Words<'a>) -> Result<Vec<u8>, Fault<'a>>
     ensures { Told vec_items result (left words.new) (word_as expected.Identity identity_read (left words.old)) }
 {
-    let expected = Expected::Identity;
-    match words.next() {
-        Some(word) => match read_bytes(heap, word) {
-            Ok(bytes) if bytes.len() == IDENTITY => Ok(bytes),
-            Err(HexFault::Memory) => Err(Fault::Memory),
-            _ => Err(Fault::Unreadable(Unreadable {
-                expected,
-                found: Some(word),
-            })),
-        },
-        None => Err(Fault::Unreadable(Unreadable {
-            expected,
-            found: None,
-        })),
-    }
+    reading::bytes_word(words, Expected::Identity, |word| read_identity(heap, word))
 }
 
 // The parts of a shelf.
+#[tactic(auto, unfolding(crate::specs::ShelfLine::parts_asked))]
 fn parts<'a>(heap: Global, words: &mut Words<'a>) -> Result<ShelfParts, Fault<'a>>
     ensures { Told parts_of result (left words.new) (parts_asked (left words.old)) }
 {
@@ -160,6 +159,7 @@ fn parts<'a>(heap: Global, words: &mut Words<'a>) -> Result<ShelfParts, Fault<'a
 }
 
 // The image of a packed shelf: zeros if it is left out.
+#[tactic(auto, unfolding(crate::specs::ShelfLine::image_asked))]
 fn image<'a>(heap: Global, words: &mut Words<'a>) -> Result<Vec<u8>, Fault<'a>>
     ensures { Told vec_items result (left words.new) (image_asked (left words.old)) }
 {
@@ -172,6 +172,7 @@ fn image<'a>(heap: Global, words: &mut Words<'a>) -> Result<Vec<u8>, Fault<'a>>
 }
 
 // The shelf, without the end of the line.
+#[tactic(auto, unfolding(crate::specs::ShelfLine::shelf_asked))]
 fn shelf<'a>(heap: Global, words: &mut Words<'a>) -> Result<ShelfAsked, Fault<'a>>
     ensures { Told shelf_of result (left words.new) (shelf_asked (left words.old)) }
 {
@@ -190,6 +191,7 @@ fn shelf<'a>(heap: Global, words: &mut Words<'a>) -> Result<ShelfAsked, Fault<'a
 }
 
 // The shelf that the words after `shelf` ask for, all of them.
+#[tactic(auto, unfolding(crate::specs::ShelfLine::shelf_words))]
 pub fn shelf_words<'a>(heap: Global, words: &mut Words<'a>) -> Result<ShelfAsked, Fault<'a>>
     ensures { Told shelf_of result (left words.new) (shelf_words (left words.old)) }
 {

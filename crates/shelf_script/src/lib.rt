@@ -1,7 +1,6 @@
-// Scripts: what is said to each line, and the shelf that is held after it.
+// Scripts that speak of shelves: what is said to each call, and the shelf that is held after it.
 #![tactic(auto)]
 
-pub mod lines;
-pub mod response;
+pub mod shelves;
 #[cfg(test)]
 mod tests;

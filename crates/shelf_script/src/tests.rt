@@ -1,6 +1,7 @@
-use crate::lines::{answer, respond};
+use crate::shelves::Shelves;
 use gathered::LineBuffer;
-use held_shelf::HeldShelf;
+use script::lines::{answer, respond};
+use script::session::Session;
 use std::alloc::Global;
 use std::process::Abort;
 use std::test::Fail;
@@ -9,11 +10,11 @@ use std::test::Fail;
 fn says(
     rt: &impl Abort,
     heap: Global,
-    held: &mut Option<HeldShelf>,
+    shelves: &mut Shelves,
     line: &str,
     said: &str,
 ) -> Result<(), Fail> {
-    match respond(heap, held, 7, line.as_bytes())?.text() {
+    match respond(shelves, heap, 7, line.as_bytes())?.text() {
         Some(text) => {
             assert_eq!(rt; text, said);
             Ok(())
@@ -23,15 +24,10 @@ fn says(
 }
 
 // Says the line in front of each ` => ` of a table, with the answer that stands behind it.
-fn says_all(
-    rt: &impl Abort,
-    heap: Global,
-    held: &mut Option<HeldShelf>,
-    table: &str,
-) -> Result<(), Fail> {
+fn says_all(rt: &impl Abort, heap: Global, shelves: &mut Shelves, table: &str) -> Result<(), Fail> {
     for row in table.lines() {
         match row.split_once(" => ") {
-            Some((line, said)) => says(rt, heap, held, line, said)?,
+            Some((line, said)) => says(rt, heap, shelves, line, said)?,
             None => return Err(Fail::new("a row without an answer")),
         }
     }
@@ -59,10 +55,10 @@ pa\u{e9}rt \\ => 7 unreadable: expected a call: `shelf`, `outputs` or `part`, fo
 #[test]
 fn lines_and_what_is_said(rt: HostRuntime) -> Result<(), Fail> {
     let heap = rt.alloc();
-    let mut held: Option<HeldShelf> = None;
-    says_all(&rt, heap, &mut held, PARTS)?;
+    let mut shelves = Shelves::begin();
+    says_all(&rt, heap, &mut shelves, PARTS)?;
     for line in ["", " \t\r", "# part", "  #part"] {
-        let said = respond(heap, &mut held, 7, line.as_bytes())?;
+        let said = respond(&mut shelves, heap, 7, line.as_bytes())?;
         assert!(rt; said.text().is_none() && said.is_readable());
     }
     Ok(())
@@ -109,24 +105,24 @@ Outputs => 7 unreadable: expected a call: `shelf`, `outputs` or `part`, found `O
 #[test]
 fn unreadable_shelves(rt: HostRuntime) -> Result<(), Fail> {
     let heap = rt.alloc();
-    let mut held: Option<HeldShelf> = None;
-    says_all(&rt, heap, &mut held, UNREADABLE)?;
+    let mut shelves = Shelves::begin();
+    says_all(&rt, heap, &mut shelves, UNREADABLE)?;
     let before = "7 unreadable: expected a `shelf` line before it, found `outputs`";
-    says(&rt, heap, &mut held, "outputs", before)?;
+    says(&rt, heap, &mut shelves, "outputs", before)?;
     let shelf =
         "shelf plain fans 1 supplies 0 slots 2 sensors 0 thermostats 0 lock no alarm no ids 0001 identity 53484f5753484f5753484f5753484f5753484f5753484f5753484f5753484f5753484f57";
-    says(&rt, heap, &mut held, shelf, "7 shelf: made; lamps 0 0")?;
-    says_all(&rt, heap, &mut held, UNREADABLE)?;
+    says(&rt, heap, &mut shelves, shelf, "7 shelf: made; lamps 0 0")?;
+    says_all(&rt, heap, &mut shelves, UNREADABLE)?;
     let outputs = "7 outputs: lamps 0 0; joins 0 0; speeds 0; supplies -; alarm 0; lock 0";
-    says(&rt, heap, &mut held, "outputs", outputs)
+    says(&rt, heap, &mut shelves, "outputs", outputs)
 }
 
 // A packed shelf over an image of ones, and over one that is too short.
 #[test]
 fn packed_shelves(rt: HostRuntime) -> Result<(), Fail> {
     let heap = rt.alloc();
-    let mut held: Option<HeldShelf> = None;
-    says_all(&rt, heap, &mut held, PACKED)
+    let mut shelves = Shelves::begin();
+    says_all(&rt, heap, &mut shelves, PACKED)
 }
 
 const PACKED: &str = "\
@@ -143,15 +139,15 @@ outputs => 7 outputs: lamps -; joins -; speeds -; supplies -; alarm 0; lock 0; i
 #[test]
 fn gathered_lines(rt: HostRuntime) -> Result<(), Fail> {
     let heap = rt.alloc();
-    let mut held: Option<HeldShelf> = None;
+    let mut shelves = Shelves::begin();
     let mut line = LineBuffer::new(heap);
     let _ = line.take(b"out")?;
     let _ = line.take(b"puts\n")?;
-    let said = answer(heap, &mut held, 1, &mut line)?;
+    let said = answer(&mut shelves, heap, 1, &mut line)?;
     assert!(rt; !said.is_readable() && line.is_empty());
     let long = vec![in heap; b'#'; 1048577]?;
     let _ = line.take(long.as_slice())?;
-    let said = answer(heap, &mut held, 2, &mut line)?;
+    let said = answer(&mut shelves, heap, 2, &mut line)?;
     assert!(rt; !said.is_readable() && line.is_empty());
     match said.text() {
         Some(text) => {
