@@ -9,7 +9,7 @@ use backplane::configuration::Configuration;
 use backplane::interface::Backplane;
 use backplane::places::Output;
 
-// How it is tied to a history stands in the promises of its calls: a type that holds a `&mut` has no invariant of its own.
+// Its history is no ghost field: each call promises for every history that the shelf is tied to, and a field would narrow that to one.
 #[derive(Drop)]
 pub struct Shelf<'b, B> {
     pub(crate) state: State,
