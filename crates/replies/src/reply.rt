@@ -11,7 +11,7 @@ use answers::sense::Sense;
 use answers::status::Status;
 use backplane::interface::Backplane;
 use hosts::Host;
-use shelf_pages::lay_page;
+use shelf_pages::page;
 use table::memory::Memory;
 use verdicts::Verdict;
 
@@ -27,8 +27,8 @@ fn show_page<B: Backplane>(b: &B, memory: &Memory, id: u8, limit: usize, buffer:
     ensures len { 64 ≤ length buffer.old → result ≡ length (take limit (page_bytes (B.Backplane.value b.now).configuration id (parts_in (B.Backplane.value b.now) memory.now) (rest_in (B.Backplane.value b.now) memory.now))) }
     ensures laid { 64 ≤ length buffer.old → buffer.new ≡ take limit (page_bytes (B.Backplane.value b.now).configuration id (parts_in (B.Backplane.value b.now) memory.now) (rest_in (B.Backplane.value b.now) memory.now)) ++ drop result buffer.old }
 {
-    let mut page = [0; 64];
-    send(lay_page(b, memory, id, &mut page), limit, buffer)
+    let mut laid = [0; 64];
+    send(page(b, memory, id, &mut laid), limit, buffer)
 }
 
 // Answers a command that comes to a verdict and is not refused, by what the shelf holds before it. The buffer has 64 bytes at least.

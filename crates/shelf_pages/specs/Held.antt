@@ -1,5 +1,5 @@
 -- What a shelf holds, as the history has it.
-use Rattle.std.specs.Prelude.{ℕ, Bool, false, cond, List, [], Some, None, Option, ◌==◌}
+use Rattle.std.specs.Prelude.{◌≡◌, ℕ, Bool, false, cond, List, [], length, take, Some, None, Option, ◌==◌}
 use Rattle.backplane.specs.Meaning.{Value}
 use Rattle.backplane.specs.declared.places.Output.TheVariants.{Speed, Supply, Alarm, Lock}
 use Rattle.history.specs.Shelf as history
@@ -42,3 +42,8 @@ status_parts v = parts_of v no_slots
 
 abbrev pub status_rest : Value → history.Rest
 status_rest v = rest_of v no_counts []
+
+-- a page at the front of a buffer, and its length
+pub record Front (page buffer : List ℕ) (n : ℕ) : Type 0 where
+  pub len : n ≡ length page
+  pub page_there : take n buffer ≡ page

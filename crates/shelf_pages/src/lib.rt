@@ -1,11 +1,11 @@
 // The pages of a shelf, laid from its backplane and what it keeps.
+// The functions that lay a page answer its length: the promise tells what the buffer then holds, which a slice that borrows the buffer would leave unsaid. `page` hands out the slice.
 #![tactic(auto)]
 
-ghost use Rattle.std.specs.Prelude.{◌≡◌, ℕ, ◌≤◌, List, length};
+ghost use Rattle.std.specs.Prelude.{◌≡◌, ◌≤◌, length};
 ghost use Rattle.history.specs.Replies.{listed, page_bytes, slot_page, status_of};
-ghost use Rattle.pages.specs.Into.{laid_front, length_within};
 ghost use Rattle.pages.specs.Pages.{configuration_page, global_flags_page, insertions_page, status_page};
-ghost use Rattle.shelf_pages.specs.Held.{parts_in, rest_in, set_if, status_parts, status_rest};
+ghost use Rattle.shelf_pages.specs.Held.{Front, parts_in, rest_in, set_if, status_parts, status_rest};
 ghost use Rattle.table.specs.Table.{counts_of, slots_of};
 
 use backplane::interface::Backplane;
@@ -26,18 +26,9 @@ fn if_fitted(fitted: bool, number: Option<u8>) -> Option<bool>
     fitted.then_some(number == Some(1))
 }
 
-// The page that was laid at the front of a buffer, by its length; nothing where there was no room for it.
-fn front(buffer: &[u8; 64], len: Option<usize>) -> &[u8]
-    ensures short { length result.now ≤ 64 }
-    ensures page { (page old : List ℕ) → length page ≤ 64 → length old ≡ 64 → len ≡ length_within page (length old) → buffer.now ≡ laid_front page old → result.now ≡ page }
-{
-    len.and_then(|len| buffer.get(..len)).unwrap_or(&[])
-}
-
 // The status page.
-fn status<'p, B: Backplane>(b: &B, buffer: &'p mut [u8; 64]) -> &'p [u8]
-    ensures short { length result.now ≤ 64 }
-    ensures page { result.now ≡ status_page (status_of (B.Backplane.value b.now).configuration (status_parts (B.Backplane.value b.now)) (status_rest (B.Backplane.value b.now))) }
+fn status<B: Backplane>(b: &B, buffer: &mut [u8; 64]) -> usize
+    ensures { Front (status_page (status_of (B.Backplane.value b.now).configuration (status_parts (B.Backplane.value b.now)) (status_rest (B.Backplane.value b.now)))) buffer.new result }
 {
     let c = b.configuration();
     let counts = c.counts;
@@ -51,18 +42,15 @@ fn status<'p, B: Backplane>(b: &B, buffer: &'p mut [u8; 64]) -> &'p [u8]
         temperatures: &temperatures(b)[..counts.sensors as usize],
         over_temperature: &over_temperature(b)[..heat as usize],
     };
-    let len = lay_status(parts, buffer);
-    front(buffer, len)
+    lay_status(parts, buffer).unwrap_or(0)
 }
 
 // The configuration page.
-fn configuration<'p, B: Backplane>(b: &B, buffer: &'p mut [u8; 64]) -> &'p [u8]
-    ensures short { length result.now ≤ 64 }
-    ensures page { result.now ≡ configuration_page (B.Backplane.value b.now).configuration.counts (B.Backplane.value b.now).configuration.lock (B.Backplane.value b.now).configuration.alarm }
+fn configuration<B: Backplane>(b: &B, buffer: &mut [u8; 64]) -> usize
+    ensures { Front (configuration_page (B.Backplane.value b.now).configuration.counts (B.Backplane.value b.now).configuration.lock (B.Backplane.value b.now).configuration.alarm) buffer.new result }
 {
     let c = b.configuration();
-    let len = lay_configuration(c.counts, c.lock, c.alarm, buffer);
-    front(buffer, len)
+    lay_configuration(c.counts, c.lock, c.alarm, buffer).unwrap_or(0)
 }
 
 // How many slots there are.
@@ -74,43 +62,31 @@ fn slot_count<B: Backplane>(b: &B) -> usize
 }
 
 // The insertion page.
-fn insertions<'p, B: Backplane>(b: &B, table: &Table, buffer: &'p mut [u8; 64]) -> &'p [u8]
-    ensures short { length result.now ≤ 64 }
-    ensures page { result.now ≡ insertions_page (listed (λ k. record { 0 = counts_of table.now k }) (B.Backplane.value b.now).configuration.counts.slots) }
+fn insertions<B: Backplane>(b: &B, table: &Table, buffer: &mut [u8; 64]) -> usize
+    ensures { Front (insertions_page (listed (λ k. record { 0 = counts_of table.now k }) (B.Backplane.value b.now).configuration.counts.slots)) buffer.new result }
 {
     let counts = insertion_counts(table);
-    let len = lay_insertions(&counts[..slot_count(b)], buffer);
-    front(buffer, len)
+    lay_insertions(&counts[..slot_count(b)], buffer).unwrap_or(0)
 }
 
 // The slot page.
-fn slots<'p, B: Backplane>(b: &B, table: &Table, buffer: &'p mut [u8; 64]) -> &'p [u8]
-    ensures short { length result.now ≤ 64 }
-    ensures page { result.now ≡ slot_page (listed (slots_of table.now) (B.Backplane.value b.now).configuration.counts.slots) }
+fn slots<B: Backplane>(b: &B, table: &Table, buffer: &mut [u8; 64]) -> usize
+    ensures { Front (slot_page (listed (slots_of table.now) (B.Backplane.value b.now).configuration.counts.slots)) buffer.new result }
 {
     let shown = slots_shown(table);
-    let len = lay_slots(&shown[..slot_count(b)], buffer);
-    front(buffer, len)
+    lay_slots(&shown[..slot_count(b)], buffer).unwrap_or(0)
 }
 
 // The page of global flags.
-fn global_flags(flags: [u8; 3], buffer: &mut [u8; 64]) -> &[u8]
-    ensures short { length result.now ≤ 64 }
-    ensures page { result.now ≡ global_flags_page flags }
+fn global_flags(flags: [u8; 3], buffer: &mut [u8; 64]) -> usize
+    ensures { Front (global_flags_page flags) buffer.new result }
 {
-    let len = lay_global_flags(flags, buffer);
-    front(buffer, len)
+    lay_global_flags(flags, buffer).unwrap_or(0)
 }
 
-// Lays a page of a shelf at the front of the buffer, and hands it out. It is asked for by a number and not by an enum, since every number has a page: one that names none has the global flags.
-pub fn lay_page<'p, B: Backplane>(
-    b: &B,
-    memory: &Memory,
-    id: u8,
-    buffer: &'p mut [u8; 64],
-) -> &'p [u8]
-    ensures short { length result.now ≤ 64 }
-    ensures page { result.now ≡ page_bytes (B.Backplane.value b.now).configuration id (parts_in (B.Backplane.value b.now) memory.now) (rest_in (B.Backplane.value b.now) memory.now) }
+// Lays a page of a shelf at the front of the buffer, and answers its length. It is asked for by a number and not by an enum, since every number has a page: one that names none has the global flags.
+pub fn lay_page<B: Backplane>(b: &B, memory: &Memory, id: u8, buffer: &mut [u8; 64]) -> usize
+    ensures { Front (page_bytes (B.Backplane.value b.now).configuration id (parts_in (B.Backplane.value b.now) memory.now) (rest_in (B.Backplane.value b.now) memory.now)) buffer.new result }
 {
     match id {
         0 => configuration(b, buffer),
@@ -119,4 +95,13 @@ pub fn lay_page<'p, B: Backplane>(
         4 => slots(b, &memory.table, buffer),
         _ => global_flags(memory.flags, buffer),
     }
+}
+
+// Lays a page as `lay_page` does, and hands it out as the front of the buffer.
+pub fn page<'p, B: Backplane>(b: &B, memory: &Memory, id: u8, buffer: &'p mut [u8; 64]) -> &'p [u8]
+    ensures short { length result.now ≤ 64 }
+    ensures page { result.now ≡ page_bytes (B.Backplane.value b.now).configuration id (parts_in (B.Backplane.value b.now) memory.now) (rest_in (B.Backplane.value b.now) memory.now) }
+{
+    let len = lay_page(b, memory, id, buffer);
+    &buffer[..len]
 }
