@@ -1,14 +1,15 @@
 // Runs scripts: calls as text in, their answers as text out, a line for each as soon as it is read.
 #![tactic(auto)]
 
-ghost use Rattle.std.specs.Prelude.{◌≡◌, is_ok, IfOk};
-ghost use Rattle.script.specs.Texts.{readable, spoken};
+ghost use Rattle.std.specs.Prelude.{◌≡◌, ◌&&◌, is_ok, IfOk};
+ghost use Rattle.script.specs.Texts.{readable, spoken, taken_spoken};
 
 use anyhow::anyhow;
 use gathered::LineBuffer;
 use script::lines::answer;
 use script::response::Response;
 use script::session::Session;
+use std::alloc::Global;
 use std::fs::File;
 use std::io::{BufRead, BufReader, Read};
 use std::{env, io};
@@ -23,48 +24,93 @@ fn print_response(rt: &HostRuntime, said: &Response) -> io::Result<bool>
     Ok(said.is_readable())
 }
 
-// Takes the next chunk of input into the line. Answers whether the line has ended, or nothing at the end of the input.
-fn next_chunk<R: Read>(
-    input: &mut BufReader<R>,
-    line: &mut LineBuffer,
-) -> anyhow::Result<Option<bool>> {
+// What comes of taking a chunk of input: the line goes on, or has ended, or the input has.
+#[derive(Clone, Copy)]
+enum Chunk {
+    GoesOn,
+    EndsLine,
+    EndsInput,
+}
+
+// Takes the next chunk of input into the line.
+fn next_chunk<R: Read>(input: &mut BufReader<R>, line: &mut LineBuffer) -> anyhow::Result<Chunk> {
     let chunk = input.fill_buf()?;
     if chunk.is_empty() {
-        return Ok(None);
+        return Ok(Chunk::EndsInput);
     }
     let taken = line.take(chunk)?;
     input.consume(taken.used);
-    Ok(Some(taken.ended))
+    if taken.ended {
+        Ok(Chunk::EndsLine)
+    } else {
+        Ok(Chunk::GoesOn)
+    }
+}
+
+// A script that is run: its session, the line that is gathered, the number of that line, and whether every line before
+// was readable. That is a flag and no error, since every line is to be read and answered.
+#[derive(Drop)]
+struct ScriptRun<S: Session> {
+    session: S,
+    line: LineBuffer,
+    number: u64,
+    readable: bool,
+}
+
+impl<S: Session> ScriptRun<S> {
+    // A script of which nothing has come yet.
+    fn begin(heap: Global) -> ScriptRun<S> {
+        ScriptRun {
+            session: S::begin(),
+            line: LineBuffer::new(heap),
+            number: 1,
+            readable: true,
+        }
+    }
+
+    // Answers the line that was gathered, and prints what is said. The next line begins.
+    fn answer_line(&mut self, rt: &HostRuntime) -> anyhow::Result<()>
+        ensures readable { IfOk result (λ _. self.new.readable ≡ (self.old.readable && readable (taken_spoken S.call_read S.call_spoken self.old.number (S.held self.old.session) self.old.line))) }
+    {
+        let said = answer(&mut self.session, rt.alloc(), self.number, &mut self.line)?;
+        self.readable &= print_response(rt, &said)?;
+        self.number = self.number.saturating_add(1);
+        Ok(())
+    }
+
+    // Answers each line of the input.
+    fn read_all<R: Read>(
+        &mut self,
+        rt: &HostRuntime,
+        input: &mut BufReader<R>,
+    ) -> anyhow::Result<()> {
+        // A loop is to end, and no script has as many chunks.
+        for _ in 0..u64::MAX {
+            match next_chunk(input, &mut self.line)? {
+                Chunk::GoesOn => {}
+                Chunk::EndsLine => self.answer_line(rt)?,
+                Chunk::EndsInput => break,
+            }
+        }
+        // The last line may end without a newline.
+        if !self.line.is_empty() {
+            self.answer_line(rt)?;
+        }
+        Ok(())
+    }
 }
 
 // Runs one script. Answers whether every line was readable.
 fn run_script<S: Session, R: Read + Drop>(rt: &HostRuntime, source: R) -> anyhow::Result<bool> {
     let heap = rt.alloc();
     let mut input = BufReader::new(heap, source)?;
-    let mut line = LineBuffer::new(heap);
-    let mut session = S::begin();
-    let mut number = 1u64;
-    let mut readable = true;
-    // A loop is to end, and no script has as many chunks.
-    for _ in 0..u64::MAX {
-        match next_chunk(&mut input, &mut line)? {
-            Some(false) => {}
-            Some(true) => {
-                let said = answer(&mut session, heap, number, &mut line)?;
-                readable &= print_response(rt, &said)?;
-                number = number.saturating_add(1);
-            }
-            None => break,
-        }
-    }
-    if !line.is_empty() {
-        let said = answer(&mut session, heap, number, &mut line)?;
-        readable &= print_response(rt, &said)?;
-    }
-    Ok(readable)
+    let mut run = ScriptRun::<S>::begin(heap);
+    run.read_all(rt, &mut input)?;
+    Ok(run.readable)
 }
 
-// Runs the script in a file. One that cannot be read is named on standard error.
+// Runs the script in a file. One that cannot be read is named on standard error, where both programs call themselves
+// `safte`: `shelves` is that program with more calls, and what it prints there is to stay.
 fn run_file<S: Session>(rt: &HostRuntime, name: &str) -> anyhow::Result<bool> {
     println!(rt; "== {name}")?;
     let ran = match File::open(rt, name) {
