@@ -11,6 +11,7 @@ use std::alloc::Global;
 use words::Words;
 
 // The question that begins with the word `verb`, with the rest of its line.
+// The program with more calls spells this test and its refusal again: its refusal names other calls.
 #[tactic(auto, unfolding(crate::specs::Question::question_read))]
 pub fn question_named<'a>(
     heap: Global,

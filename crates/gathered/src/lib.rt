@@ -26,7 +26,7 @@ impl Model for LineBuffer {
     ghost view = { λ b. option_map vec_items b.bytes };
 }
 
-// How many bytes of a chunk were taken, and whether the line ends with them.
+// How many bytes of a chunk were taken, and whether the line ends with them: both mean something in every case.
 #[derive(Clone, Copy)]
 pub struct Taken {
     pub used: usize,

@@ -14,6 +14,7 @@ use plain::held::Plain;
 use shelf_line::{ShelfAsked, ShelfParts};
 use std::alloc::{AllocError, Global};
 
+// The two kinds of shelf are two types, since they hold different things: a plain one holds its backplane.
 #[derive(Drop)]
 pub struct PlainShelf {
     pub parts: ShelfParts,
@@ -33,7 +34,7 @@ pub enum HeldShelf {
     Packed(PackedShelf),
 }
 
-// What a shelf with these parts is to be fitted with.
+// What a shelf with these parts is to be fitted with. It is no `From`, since both types are of other crates.
 fn fittings(parts: &ShelfParts) -> Fittings<'_>
     ensures counts { result.counts ≡ parts.now.counts }
     ensures lock { result.lock ≡ parts.now.lock }

@@ -1,5 +1,6 @@
 // The text that answers a question, and the text of a complaint, each behind the number of its line.
 // Heap and number stay two parameters: the one goes to the functions that allocate, the other into the text.
+// Each text puts the number in front itself: put there once, it would take a type with a `Display` for each text.
 #![tactic(auto)]
 
 ghost use Rattle.std.specs.Prelude.{◌≡◌, IfOk, string_bytes};

@@ -24,6 +24,7 @@ fn write_all<W: fmt::Write>(f: &mut fmt::Formatter<W>, numbers: &[u8]) -> fmt::R
 }
 
 // Writes numbers in decimal, with one blank between each two, and `-` for none.
+// `Spaced` of crate `printed` does likewise in hex: one type for both would have to be told how a byte is written.
 #[derive(Clone, Copy)]
 pub struct Listed<'a>(pub &'a [u8]);
 

@@ -14,7 +14,7 @@ pub fn number<B: Backplane>(b: &B, at: Output) -> u8
     b.output(at).unwrap_or(0)
 }
 
-// The numbers of a row.
+// The numbers of a row. The row is a value and no closure that finds the places, since contracts name rows.
 #[tactic(auto, unfolding(crate::specs::Outputs::row_shown))]
 pub fn numbers<B: Backplane>(heap: Global, b: &B, row: Row) -> Result<Vec<u8>, AllocError>
     ensures { IfOk result (λ v. v.items ≡ row_shown (outside (B.Backplane.value b.now)) row) }

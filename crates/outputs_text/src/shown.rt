@@ -10,6 +10,7 @@ use std::alloc::{AllocError, Global};
 use std::fmt;
 
 // The number at each output: those in rows, and 0 for an alarm or a lock that is not fitted.
+// The rows stand side by side, since each is printed whole and none is read along with another.
 #[derive(Drop)]
 pub struct OutputNumbers {
     pub lamps: Vec<u8>,

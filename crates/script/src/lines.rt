@@ -1,4 +1,5 @@
 // What is said to each line of a script, and what is held after it.
+// Heap and number stay two parameters: the one goes to the functions that allocate, the other into the text.
 ghost use Rattle.std.specs.Prelude.{◌≡◌, is_ok, IfOk, if◌then◌else◌};
 ghost use Rattle.std.specs.Option.{option_map};
 ghost use Rattle.words.specs.Words.{words};

@@ -42,7 +42,8 @@ pub trait Session: Drop {
     fn begin() -> Self
         ensures { held result ≡ first };
 
-    // The call that begins with the word `verb`, with the rest of its line.
+    // The call that begins with the word `verb`, with the rest of its line: the word is taken already, since a line
+    // without one is no call whatever the program.
     fn named<'a>(
         heap: Global,
         verb: &'a [u8],

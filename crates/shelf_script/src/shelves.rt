@@ -1,4 +1,5 @@
 // What is said to each call of a script that speaks of shelves, and the shelf that is held after it.
+// Heap and number stay two parameters: the one goes to the functions that allocate, the other into the text.
 ghost use Rattle.std.specs.Prelude.{◌≡◌, is_ok, IfOk, if◌then◌else◌, Some, None, Option};
 ghost use Rattle.std.specs.Option.{option_map};
 ghost use Rattle.calls.specs.Shelves.{Heard, call_read, heard};
