@@ -1,4 +1,5 @@
 // What the status page shows of the backplane.
+// Each list is an array of as many parts as there can be, and the configuration says how many of them count: firmware has no heap for a list of just those.
 ghost use Rattle.std.specs.Prelude.{◌≡◌, ℕ, ◌+◌, ◌<◌, take, ◌==◌, slice_index};
 ghost use Rattle.backplane.specs.declared.places.Output.TheVariants.{Supply as Switch};
 ghost use Rattle.enclosure.specs.Conditions.{fan_of, supply_of};

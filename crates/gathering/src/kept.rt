@@ -1,4 +1,4 @@
-// What the slot page and the insertion page show of the table.
+// What the slot page and the insertion page show of the table, all 14 slots of it: firmware has no heap for a list of just those that are fitted.
 ghost use Rattle.std.specs.Prelude.{◌≡◌, ℕ, ◌≤◌, take};
 ghost use Rattle.history.specs.Replies.{listed, slot_bytes};
 ghost use Rattle.parts.specs.Laid.{slot_laid};

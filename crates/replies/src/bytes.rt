@@ -15,7 +15,7 @@ pub fn inquiry_bytes(first: u8, identity: &[u8; 36]) -> [u8; 56]
     bytes
 }
 
-// The 18 bytes of sense data.
+// The 18 bytes of sense data. This is no `From`: that would stand beside `Sense` in crate `answers`, which knows no bytes of a reply.
 pub fn sense_bytes(sense: Sense) -> [u8; 18]
     ensures { result ≡ sense_bytes sense }
 {
@@ -26,7 +26,7 @@ pub fn sense_bytes(sense: Sense) -> [u8; 18]
     ]
 }
 
-// Lays the first `limit` bytes at the front of the buffer, if it has room for all of them, and answers how many they are.
+// Lays the first `limit` bytes at the front of the buffer, if it has room for all of them, and answers how many they are. Without room it answers 0, as where nothing is sent: to require room would ask more of its callers, and an `Option` would only be made a 0 again, since `reply` answers for a buffer of any length.
 pub fn send(bytes: &[u8], limit: usize, reply: &mut [u8]) -> usize
     ensures len { length bytes.now ≤ length reply.old → result ≡ length (take limit bytes.now) }
     ensures laid { length bytes.now ≤ length reply.old → reply.new ≡ take limit bytes.now ++ drop (length (take limit bytes.now)) reply.old }

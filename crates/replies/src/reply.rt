@@ -22,7 +22,7 @@ pub struct Ended {
     pub len: usize,
 }
 
-// Sends a page, up to a length.
+// Sends a page, up to a length. That the buffer has 64 bytes is said in the clauses, here and at `reply`: a type of such buffers would be narrower than the slice of any length that a caller may give.
 fn show_page<B: Backplane>(b: &B, memory: &Memory, id: u8, limit: usize, buffer: &mut [u8]) -> usize
     ensures len { 64 ≤ length buffer.old → result ≡ length (take limit (page_bytes (B.Backplane.value b.now).configuration id (parts_in (B.Backplane.value b.now) memory.now) (rest_in (B.Backplane.value b.now) memory.now))) }
     ensures laid { 64 ≤ length buffer.old → buffer.new ≡ take limit (page_bytes (B.Backplane.value b.now).configuration id (parts_in (B.Backplane.value b.now) memory.now) (rest_in (B.Backplane.value b.now) memory.now)) ++ drop result buffer.old }
@@ -32,6 +32,7 @@ fn show_page<B: Backplane>(b: &B, memory: &Memory, id: u8, limit: usize, buffer:
 }
 
 // Answers a command that comes to a verdict and is not refused, by what the shelf holds before it. The buffer has 64 bytes at least.
+// The backplane and the memory are two parameters: a reply borrows both to read, an order borrows both to change, and a struct of two borrows would be needed once for each.
 pub fn reply<B: Backplane>(
     b: &B,
     memory: &Memory,

@@ -77,7 +77,7 @@ fn slots<B: Backplane>(b: &B, table: &Table, buffer: &mut [u8; 64]) -> usize
     lay_slots(&shown[..slot_count(b)], buffer).unwrap_or(0)
 }
 
-// The page of global flags.
+// The page of global flags. They are an array of three bytes: any three are flags and they are laid as they come, so a type of their own would keep nothing out.
 fn global_flags(flags: [u8; 3], buffer: &mut [u8; 64]) -> usize
     ensures { Front (global_flags_page flags) buffer.new result }
 {
@@ -85,6 +85,7 @@ fn global_flags(flags: [u8; 3], buffer: &mut [u8; 64]) -> usize
 }
 
 // Lays a page of a shelf at the front of the buffer, and answers its length. It is asked for by a number and not by an enum, since every number has a page: one that names none has the global flags.
+// The backplane and the memory are two parameters, as the backplane and the table are above: a page borrows both to read, an order borrows both to change, and a struct of two borrows would be needed once for each.
 pub fn lay_page<B: Backplane>(b: &B, memory: &Memory, id: u8, buffer: &mut [u8; 64]) -> usize
     ensures { Front (page_bytes (B.Backplane.value b.now).configuration id (parts_in (B.Backplane.value b.now) memory.now) (rest_in (B.Backplane.value b.now) memory.now)) buffer.new result }
 {
