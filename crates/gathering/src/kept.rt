@@ -26,7 +26,7 @@ fn shown(table: &Table, k: usize) -> SlotShown
     }
 }
 
-// The slots. Of up to 14 of them the first are laid as their rows and states.
+// The slots. Any number of them, from the first on, is laid as the rows and the physical states that the table has.
 pub fn slots_shown(table: &Table) -> [SlotShown; 14]
     ensures { (n : ℕ) → n ≤ 14 → flat_map slot_laid (take n result) ≡ flat_map slot_bytes (listed (slots_of table.now) n) }
 {

@@ -17,7 +17,7 @@ pub struct Shelf<'b, B> {
 }
 
 impl<'b, B: Backplane> Shelf<'b, B> {
-    // An unpowered shelf over a backplane, no output of which is set.
+    // An unpowered shelf over a backplane, which is left as it was.
     pub fn new(backplane: &'b mut B, identity: [u8; 36]) -> Shelf<'b, B>
         ensures is { result.backplane.now ≡ backplane.old }
         ensures lent { result.backplane.ghost_name ≡ backplane.entry.ghost_name }

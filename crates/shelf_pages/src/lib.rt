@@ -98,7 +98,7 @@ pub fn lay_page<B: Backplane>(b: &B, memory: &Memory, id: u8, buffer: &mut [u8; 
     }
 }
 
-// Lays a page as `lay_page` does, and hands it out as the front of the buffer.
+// Lays a page as `lay_page` does, and hands it out as a slice of the buffer.
 pub fn page<'p, B: Backplane>(b: &B, memory: &Memory, id: u8, buffer: &'p mut [u8; 64]) -> &'p [u8]
     ensures short { length result.now ≤ 64 }
     ensures page { result.now ≡ page_bytes (B.Backplane.value b.now).configuration id (parts_in (B.Backplane.value b.now) memory.now) (rest_in (B.Backplane.value b.now) memory.now) }
