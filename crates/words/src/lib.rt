@@ -39,11 +39,7 @@ fn cut(text: &[u8]) -> (Option<&[u8]>, &[u8])
 {
     let (_, rest) = split_before(text, |c| !is_blank(*c));
     let (word, rest) = split_before(rest, |c| is_blank(*c));
-    if word.is_empty() {
-        (None, rest)
-    } else {
-        (Some(word), rest)
-    }
+    ((!word.is_empty()).then_some(word), rest)
 }
 
 // The words of a line that are still to come.
