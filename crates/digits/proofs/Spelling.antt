@@ -1,7 +1,10 @@
 -- Hex text: the step of the loop that reads it, and what reads. Assumes nothing.
-use Rattle.std.proofs.Common.{◌≡◌, ℕ, ◌+◌, ◌*◌, ◌/◌, ◌%◌, ◌<◌, true, not, ◌⊎◌, List, [], ◌∷◌, ◌++◌, map, length, get_or, IfOk, Some, None, Ok, Err, All, Option, Result, sym, refl, ap, ◌∙◌, inl, inr, append_assoc, arith, MatchResult}
+use Rattle.std.proofs.Common.{◌≡◌, ℕ, zero, suc, ◌+◌, ◌*◌, ◌/◌, ◌%◌, ◌<◌, true, not, ◌⊎◌, List, [], ◌∷◌, ◌++◌, map, length, get_or, drop, IfOk, Some, None, Ok, Err, All, Option, Result, sym, refl, ap, ◌∙◌, inl, inr, append_assoc, arith, MatchResult}
 use Rattle.std.specs.Char.{digit_char, to_ascii_lowercase}
-use Rattle.std.specs.List.{flat_map}
+use Rattle.std.specs.List.{concat, flat_map}
+use Rattle.std.specs.Simd.{first_chunks}
+use Rattle.std.proofs.Math.Seq.{drop-cons}
+use Rattle.std.proofs.lemmas.List.{nil_from_length}
 use Rattle.std.proofs.lemmas.List.Elements.{All-head, All-tail}
 use Rattle.std.proofs.lemmas.Bool.{cond-true}
 use Rattle.std.proofs.lemmas.Bool.Decides.{nat_tests}
@@ -21,16 +24,35 @@ after_followed xs b None = refl
 after_followed xs b (Some ys) = ap (λ (l : List ℕ). Some l) (append_assoc xs (b ∷ []) ys)
 
 -- A pair in front of what is left.
-pair_read : (rest pair left : List ℕ) → rest ≡ pair ++ left → length pair ≡ 2 → hex_read rest ≡ followed (byte_of (get_or pair 0 0) (get_or pair 1 0)) (hex_read left)
-pair_read rest [] left e two = absurd (omega arith)
-pair_read rest (a ∷ []) left e two = absurd (omega arith)
-pair_read rest (a ∷ b ∷ []) left e two = ap hex_read e
-pair_read rest (a ∷ b ∷ c ∷ pair) left e two = absurd (omega arith)
+pair_read : (pair left : List ℕ) → length pair ≡ 2 → hex_read (pair ++ left) ≡ followed (byte_of (get_or pair 0 0) (get_or pair 1 0)) (hex_read left)
+pair_read [] left two = absurd (omega arith)
+pair_read (a ∷ []) left two = absurd (omega arith)
+pair_read (a ∷ b ∷ []) left two = refl
+pair_read (a ∷ b ∷ c ∷ pair) left two = absurd (omega arith)
+
+-- The first of the pairs that are left.
+next_read : (pairs : List (List ℕ)) (k : ℕ) (d : List ℕ) → k < length pairs → length (get_or pairs k d) ≡ 2 → hex_read (concat (drop k pairs)) ≡ followed (byte_of (get_or (get_or pairs k d) 0 0) (get_or (get_or pairs k d) 1 0)) (hex_read (concat (drop (k + 1) pairs)))
+next_read pairs k d l two =
+    let next : suc k ≡ k + 1 = omega arith in
+    ap (λ (ps : List (List ℕ)). hex_read (concat ps)) (drop-cons pairs k d l ∙ ap (λ (m : ℕ). get_or pairs k d ∷ drop m pairs) next) ∙ pair_read (get_or pairs k d) (concat (drop (k + 1) pairs)) two
+
+-- Two digits that are no byte.
+pub pair_none : (pairs : List (List ℕ)) (k : ℕ) (d xs : List ℕ) (whole : Option (List ℕ)) → k < length pairs → length (get_or pairs k d) ≡ 2 → None ≡ byte_of (get_or (get_or pairs k d) 0 0) (get_or (get_or pairs k d) 1 0) → after xs (hex_read (concat (drop k pairs))) ≡ whole → whole ≡ None
+pair_none pairs k d xs whole l two is inv =
+    sym (sym (ap (after xs) (next_read pairs k d l two ∙ ap (λ (o : Option ℕ). followed o (hex_read (concat (drop (k + 1) pairs)))) (sym is))) ∙ inv)
 
 -- One more byte.
-pub pair_more : (rest pair left xs ys : List ℕ) (b : ℕ) (whole : Option (List ℕ)) → rest ≡ pair ++ left → length pair ≡ 2 → Some b ≡ byte_of (get_or pair 0 0) (get_or pair 1 0) → ys ≡ xs ++ b ∷ [] → after xs (hex_read rest) ≡ whole → after ys (hex_read left) ≡ whole
-pair_more rest pair left xs ys b whole e two is grown inv =
-    ap (λ (l : List ℕ). after l (hex_read left)) grown ∙ after_followed xs b (hex_read left) ∙ ap (λ (o : Option ℕ). after xs (followed o (hex_read left))) is ∙ sym (ap (after xs) (pair_read rest pair left e two)) ∙ inv
+pub pair_more : (pairs : List (List ℕ)) (k : ℕ) (d xs ys : List ℕ) (b : ℕ) (whole : Option (List ℕ)) → k < length pairs → length (get_or pairs k d) ≡ 2 → Some b ≡ byte_of (get_or (get_or pairs k d) 0 0) (get_or (get_or pairs k d) 1 0) → ys ≡ xs ++ b ∷ [] → after xs (hex_read (concat (drop k pairs))) ≡ whole → after ys (hex_read (concat (drop (k + 1) pairs))) ≡ whole
+pair_more pairs k d xs ys b whole l two is grown inv =
+    let left = hex_read (concat (drop (k + 1) pairs)) in
+    ap (λ (l : List ℕ). after l left) grown ∙ after_followed xs b left ∙ ap (λ (o : Option ℕ). after xs (followed o left)) is ∙ sym (ap (after xs) (next_read pairs k d l two)) ∙ inv
+
+-- Pairs that a text is cut in are the text.
+pub pairs_joined : (n : ℕ) (text : List ℕ) → n * 2 ≡ length text → concat (first_chunks 2 n text) ≡ text
+pairs_joined zero text e = sym (nil_from_length text (sym e))
+pairs_joined (suc n) [] e = absurd (omega arith)
+pairs_joined (suc n) (a ∷ []) e = absurd (omega arith)
+pairs_joined (suc n) (a ∷ b ∷ rest) e = ap (λ (l : List ℕ). a ∷ b ∷ l) (pairs_joined n rest (omega arith))
 
 followed_none : (o : Option ℕ) → followed o None ≡ None
 followed_none None = refl

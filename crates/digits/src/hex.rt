@@ -1,6 +1,7 @@
 // Bytes as text: two hex digits for each, the high one first.
-ghost use Rattle.std.specs.Prelude.{◌≡◌, ℕ, ◌%◌, ◌<◌, ◌⊎◌, List, map, length, IfSome, IfOk, Some, All, MatchResult};
+ghost use Rattle.std.specs.Prelude.{◌≡◌, ℕ, ◌<◌, ◌⊎◌, List, map, length, IfSome, IfOk, Some, All, MatchResult};
 ghost use Rattle.std.specs.Char.{to_ascii_lowercase};
+ghost use Rattle.std.specs.List.{concat};
 ghost use Rattle.digits.specs.declared.hex.HexFault.TheVariants.{Memory};
 ghost use Rattle.digits.specs.Hex.{digit_of, byte_of, hex_read, bytes_read, Failed, spelled, spelled_upper};
 ghost use Rattle.printed.specs.Shown.{spaced};
@@ -40,14 +41,13 @@ fn hex_byte(high: u8, low: u8) -> Option<u8>
     Some(high * 16 + low)
 }
 
-// The bytes of a text of even length.
-fn read_pairs(heap: Global, text: &[u8]) -> Result<Vec<u8>, HexFault>
-    requires { length text.now % 2 ≡ 0 }
-    ensures { MatchResult result (λ v. hex_read text.now ≡ Some v.items) (λ f. Failed f (hex_read text.now)) }
+// The bytes of digits two by two.
+fn read_pairs(heap: Global, pairs: &[[u8; 2]]) -> Result<Vec<u8>, HexFault>
+    ensures { MatchResult result (λ v. hex_read (concat pairs.now) ≡ Some v.items) (λ f. Failed f (hex_read (concat pairs.now))) }
 {
     let mut bytes = Vec::new(heap);
-    for pair in text.chunks_exact(2) {
-        let byte = hex_byte(pair[0], pair[1]).ok_or(HexFault::NotHex)?;
+    for [high, low] in pairs {
+        let byte = hex_byte(*high, *low).ok_or(HexFault::NotHex)?;
         bytes.push(byte)?;
     }
     Ok(bytes)
@@ -60,10 +60,11 @@ pub fn read_hex(heap: Global, text: &[u8]) -> Result<Vec<u8>, HexFault>
     ensures unspaced { (bs : List ℕ) → All (λ b. b < 256) bs → 0 < length bs → text.now ≡ unblanked (spaced bs) → MatchResult result (λ v. v.items ≡ bs) (λ f. f ≡ Memory) }
     ensures only { IfOk result (λ v. map to_ascii_lowercase text.now ≡ spelled v.items) }
 {
-    if text.len() % 2 != 0 {
+    let (pairs, rest) = text.as_chunks::<2>();
+    if !rest.is_empty() {
         return Err(HexFault::NotHex);
     }
-    read_pairs(heap, text)
+    read_pairs(heap, pairs)
 }
 
 // The bytes that a word stands for: `-` is none, and any other word is hex.

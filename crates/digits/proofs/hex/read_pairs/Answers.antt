@@ -1,22 +1,31 @@
-use Rattle.std.proofs.Common.{◌≡◌, [], Some, vec_items, sym, ap, ◌∙◌, length, append-nil, length-append, arith}
-use Rattle.std.proofs.lemmas.List.{nil_from_length}
+use Rattle.std.proofs.Common.{◌≡◌, ◌<◌, ◌≤◌, length, drop, [], Some, None, vec_items, sym, ap, ◌∙◌, append-nil, rules}
+use Rattle.std.proofs.lemmas.List.{drop_all}
+use Rattle.std.specs.List.{concat}
 use Rattle.digits.specs.Hex.{hex_read}
-use Rattle.digits.proofs.Spelling.{after, pair_more}
+use Rattle.digits.proofs.Spelling.{after, pair_more, pair_none}
 use Rattle.digits.proofs.hex.read_pairs.Goals as goal
 
-pub loop-pair-preserved : goal.loop-pair-preserved
-loop-pair-preserved c =
-    let step = c.in-Some.ensures.steps in
-    let pair = c.in-Some.pair.now in
-    let left = c.next.new.self.rest.now in
-    record {
-      whole = pair_more c.loop-pair.pair-iterator.rest.now pair left (vec_items c.loop-pair.bytes) (vec_items c.push.new.self) c.in_ok-byte.byte (hex_read c.args.text.now) step.1.0 (step.1.1 ∙ c.loop-pair.invariant.size) (sym c.in_ok-byte.ensures.ok_part ∙ c.hex_byte.ensures) c.in_ok-push.ensures.items c.loop-pair.invariant.whole;
-      size = step.0 ∙ c.loop-pair.invariant.size;
-      even = omega (arith, length-append pair left, ap length step.1.0);
-    }
+pub returns-in_err-byte : goal.returns-in_err-byte
+returns-in_err-byte c =
+    let ps = c.args.pairs.now in
+    let k = c.loop-high.high-index in
+    let here : k < length ps = search rules in
+    let none : None ≡ c.hex_byte.result = search rules in
+    let all = pair_none ps k [] (vec_items c.loop-high.bytes) _ here (c.told-pairs k here) (none ∙ c.hex_byte.ensures) c.loop-high.invariant in
+    search rules
+
+pub loop-high-preserved : goal.loop-high-preserved
+loop-high-preserved c =
+    let ps = c.args.pairs.now in
+    let k = c.loop-high.high-index in
+    let here : k < length ps = search rules in
+    pair_more ps k [] (vec_items c.loop-high.bytes) (vec_items c.push.new.self) c.in_ok-byte.byte _ here (c.told-pairs k here) (sym c.in_ok-byte.ensures.ok_part ∙ c.hex_byte.ensures) c.in_ok-push.ensures.items c.loop-high.invariant
 
 pub returns : goal.returns
 returns c =
-    let items = vec_items c.loop-pair.bytes in
-    let none : c.loop-pair.pair-iterator.rest.now ≡ [] = nil_from_length _ (omega (arith, c.in-None.ensures.steps, c.loop-pair.invariant.size, c.loop-pair.invariant.even)) in
-    sym c.loop-pair.invariant.whole ∙ ap (λ l. after items (hex_read l)) none ∙ ap (λ l. Some l) (append-nil items)
+    let ps = c.args.pairs.now in
+    let k = c.loop-high.high-index in
+    let items = vec_items c.loop-high.bytes in
+    let past : length ps ≤ k = search rules in
+    let none : drop k ps ≡ [] = drop_all k ps past in
+    sym c.loop-high.invariant ∙ ap (λ l. after items (hex_read (concat l))) none ∙ ap (λ l. Some l) (append-nil items)
