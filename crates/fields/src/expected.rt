@@ -28,6 +28,7 @@ pub enum Keyword {
 }
 
 impl Keyword {
+    // The text is handed out as a `&str`, and not by `Display`: `same` and the contracts compare words with it.
     pub fn text(self) -> &'static str
         ensures { result.now ≡ keyword_text self }
     {

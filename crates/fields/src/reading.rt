@@ -35,6 +35,7 @@ pub fn word<'a, T, F: FnOnce(&'a [u8]) -> Option<T>>(
 }
 
 // The same where reading takes memory.
+// One function of both would need a trait that tells which error means memory, or give each reading an error that it cannot have.
 pub fn bytes_word<'a, F: FnOnce(&'a [u8]) -> Result<Vec<u8>, HexFault>>(
     words: &mut Words<'a>,
     expected: Expected,

@@ -21,6 +21,7 @@ pub struct PartQuestion {
 }
 
 // The question, without the end of the line.
+// The heap stays a parameter beside the words: it shows which readings can run out of memory.
 fn question<'a>(heap: Global, words: &mut Words<'a>) -> Result<PartQuestion, Fault<'a>>
     ensures { Told asked result (left words.new) (part_asked (left words.old)) }
 {

@@ -28,6 +28,7 @@ pub struct ShelfParts {
     pub lock: bool,
     pub alarm: bool,
     pub ids: Vec<u8>,
+    // A line gives 36 bytes. An array would say so, but would ask it of parts that are made without a line too.
     pub identity: Vec<u8>,
 }
 
@@ -63,7 +64,7 @@ fn read_kind<'a>(words: &mut Words<'a>) -> Result<Kind, Unreadable<'a>>
     reading::word(words, Expected::Kind, kind_named)
 }
 
-// Whether a word is `yes` or `no`.
+// Which of `yes` and `no` a word is, if it is either.
 fn truth_named(word: &[u8]) -> Option<bool>
     ensures { result ≡ truth_read word.now }
 {
@@ -132,6 +133,7 @@ fn read_identity(heap: Global, word: &[u8]) -> Result<Vec<u8>, HexFault>
 }
 
 // Takes the next word, which is to be the bytes of an identity.
+// The heap stays a parameter beside the words, here and below: it shows which readings can run out of memory.
 fn identity<'a>(heap: Global, words: &mut Words<'a>) -> Result<Vec<u8>, Fault<'a>>
     ensures { Told vec_items result (left words.new) (word_as expected.Identity identity_read (left words.old)) }
 {
