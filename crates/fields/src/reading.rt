@@ -122,6 +122,7 @@ pub fn bytes<'a>(heap: Global, words: &mut Words<'a>) -> Result<Vec<u8>, Fault<'
 }
 
 // A keyword, and the bytes that follow it.
+// A function of any reading behind a keyword would say by the reading's `post` what is one equation here, and each closure for it would state that equation again.
 pub fn named_bytes<'a>(
     heap: Global,
     words: &mut Words<'a>,

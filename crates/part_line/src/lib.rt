@@ -40,6 +40,7 @@ fn question<'a>(heap: Global, words: &mut Words<'a>) -> Result<PartQuestion, Fau
 }
 
 // The question that the words after `part` ask, all of them.
+// The end of the line is read here and not by a function of any reading, whose contract would say by the reading's `post` what is one equation here.
 #[tactic(auto, unfolding(crate::specs::PartLine::part_words))]
 pub fn part_words<'a>(heap: Global, words: &mut Words<'a>) -> Result<PartQuestion, Fault<'a>>
     ensures { Told asked result (left words.new) (part_words (left words.old)) }

@@ -83,6 +83,7 @@ fn truth<'a>(words: &mut Words<'a>) -> Result<bool, Unreadable<'a>>
 }
 
 // A keyword, and whether it is so.
+// One function for this, counts and bytes would take the reading as a closure: its contract is longer than theirs together, and a closure for it has to state what it reads.
 #[tactic(auto, unfolding(crate::specs::ShelfLine::named_flag))]
 fn named_flag<'a>(words: &mut Words<'a>, name: Keyword) -> Result<bool, Unreadable<'a>>
     ensures { parsed result (left words.new) ≡ named_flag name (left words.old) }
@@ -193,6 +194,7 @@ fn shelf<'a>(heap: Global, words: &mut Words<'a>) -> Result<ShelfAsked, Fault<'a
 }
 
 // The shelf that the words after `shelf` ask for, all of them.
+// The end of the line is read here and not by a function of any reading, whose contract would say by the reading's `post` what is one equation here.
 #[tactic(auto, unfolding(crate::specs::ShelfLine::shelf_words))]
 pub fn shelf_words<'a>(heap: Global, words: &mut Words<'a>) -> Result<ShelfAsked, Fault<'a>>
     ensures { Told shelf_of result (left words.new) (shelf_words (left words.old)) }
