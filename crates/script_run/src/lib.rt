@@ -47,8 +47,8 @@ fn next_chunk<R: Read>(input: &mut BufReader<R>, line: &mut LineBuffer) -> anyho
     }
 }
 
-// A script that is run: its session, the line that is gathered, the number of that line, and whether every line before
-// was readable. That is a flag and no error, since every line is to be read and answered.
+// A script that is run: its session, the line that is gathered, the number of that line, and whether every line that
+// was answered was readable. That is a flag and no error, since every line is to be read and answered.
 #[derive(Drop)]
 struct ScriptRun<S: Session> {
     session: S,
