@@ -4,6 +4,7 @@ ghost use Rattle.std.specs.List.{list_all};
 ghost use Rattle.std.specs.Option.{option_map};
 ghost use Rattle.history.specs.Orders.{both_rebuild, fan_speed, global_flags, operation_of, order_of, slot_operation, slot_status, supply_switch, triple_in};
 ghost use Rattle.orders.specs.Decoded.{operation_as, order_as};
+ghost use Rattle.orders.specs.Numbered.{numbered};
 
 use crate::order::{Operation, Order};
 use crate::triples::{has_both_rebuild, row};
@@ -38,7 +39,18 @@ fn slot_status(c: Configuration, bytes: &[u8]) -> Option<Order<'_>>
     are_sound(triples.as_chunks().0).then_some(Order::Triples(triples))
 }
 
-// Order 12h: an operation on a slot.
+// The number of a part below `count` and the byte below `most` after it, if that is what follows the code.
+fn numbered(bytes: &[u8], count: u8, most: u8) -> Option<(usize, u8)>
+    ensures { result ≡ numbered bytes.now count most }
+{
+    match bytes {
+        [_, number, byte, ..] if *number < count && *byte < most =>
+            Some((usize::from(*number), *byte)),
+        _ => None,
+    }
+}
+
+// Order 12h: an operation on a slot. Not by `numbered`, since any byte may follow the slot.
 fn slot_operation(c: Configuration, bytes: &[u8]) -> Option<Order<'_>>
     ensures { option_map order_as result ≡ slot_operation c bytes.now }
 {
@@ -55,26 +67,19 @@ fn slot_operation(c: Configuration, bytes: &[u8]) -> Option<Order<'_>>
 fn fan_speed(c: Configuration, bytes: &[u8]) -> Option<Order<'_>>
     ensures { option_map order_as result ≡ fan_speed c bytes.now }
 {
-    match bytes {
-        [_, fan, speed, ..] if *fan < c.counts.fans && *speed < 5 => Some(Order::Speed {
-            fan: usize::from(*fan),
-            speed: *speed,
-        }),
-        _ => None,
-    }
+    let (fan, speed) = numbered(bytes, c.counts.fans, 5)?;
+    Some(Order::Speed { fan, speed })
 }
 
 // Order 14h: a supply on or off.
 fn supply_switch(c: Configuration, bytes: &[u8]) -> Option<Order<'_>>
     ensures { option_map order_as result ≡ supply_switch c bytes.now }
 {
-    match bytes {
-        [_, supply, on, ..] if *supply < c.counts.supplies && *on < 2 => Some(Order::Switch {
-            supply: usize::from(*supply),
-            on: *on == 1,
-        }),
-        _ => None,
-    }
+    let (supply, on) = numbered(bytes, c.counts.supplies, 2)?;
+    Some(Order::Switch {
+        supply,
+        on: on == 1,
+    })
 }
 
 // Order 15h: the global flags.
