@@ -32,7 +32,8 @@ pub fn obey<B: Backplane>(memory: &mut Memory, b: &mut B, order: Order<'_>)
         Order::Switch { supply, on } => {
             let _ = b.set(Output::Supply(supply), u8::from(on));
         }
-        Order::Global(first, second, _) => {
+        Order::Global(flags) => {
+            let [first, second, _] = flags;
             memory.flags = [first, second % 16, 0];
             let _ = b.set(Output::Alarm, first % 2);
             let _ = b.set(Output::Lock, (second >> 2) % 2);

@@ -1,4 +1,5 @@
 -- Orders of the code as the history knows them.
+use Rattle.std.specs.Prelude.{slice_index}
 use Rattle.history.specs.Orders as history
 use Rattle.orders.specs.declared.order.Operation.{Operation}
 use Rattle.orders.specs.declared.order.Operation.TheVariants as operation
@@ -16,4 +17,4 @@ order_as (order.Triples bs) = history.triples bs.now
 order_as (order.Operate n o) = history.operate n (operation_as o)
 order_as (order.Speed n x) = history.speed n x
 order_as (order.Switch n on) = history.switch n on
-order_as (order.Global a b c) = history.global a b c
+order_as (order.Global flags) = history.global (slice_index flags 0) (slice_index flags 1) (slice_index flags 2)

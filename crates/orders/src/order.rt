@@ -16,6 +16,6 @@ pub enum Order<'a> {
     Operate { slot: usize, operation: Operation },
     Speed { fan: usize, speed: u8 },
     Switch { supply: usize, on: bool },
-    // the three bytes of global flags
-    Global(u8, u8, u8),
+    // the three bytes of global flags, as a shelf keeps them
+    Global([u8; 3]),
 }

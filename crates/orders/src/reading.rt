@@ -87,7 +87,7 @@ fn global_flags(bytes: &[u8]) -> Option<Order<'_>>
     ensures { option_map order_as result ≡ global_flags bytes.now }
 {
     match bytes {
-        [_, first, second, third, ..] => Some(Order::Global(*first, *second, *third)),
+        [_, first, second, third, ..] => Some(Order::Global([*first, *second, *third])),
         _ => None,
     }
 }
