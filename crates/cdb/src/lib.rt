@@ -3,7 +3,11 @@
 
 ghost use Rattle.std.specs.Prelude.{◌≡◌};
 ghost use Rattle.cdb.specs.Heard.{heard};
-ghost use Rattle.history.specs.Cdb.{buffer_id, field, ill_formed, is_long, is_short, long_length, mode, opcode, sent, short_length, unit};
+ghost use Rattle.history.specs.Cdb.{buffer_id, field, ill_formed, long_length, mode, opcode, sent, short_length, unit};
+
+pub mod opcode;
+
+use crate::opcode::cdb_length;
 
 // A command: the host that sends it, its CDB, its data, and the room in the reply buffer.
 #[derive(Clone, Copy)]
@@ -12,20 +16,6 @@ pub struct Command<'a> {
     pub cdb: &'a [u8],
     pub payload: &'a [u8],
     pub room: usize,
-}
-
-// Whether commands with this opcode have a CDB of 6 bytes. Opcodes stay bytes here: any byte may come, and an enum would name each of the six a second time.
-fn is_short(opcode: u8) -> bool
-    ensures { result ≡ is_short opcode }
-{
-    matches!(opcode, 0x00 | 0x03 | 0x12 | 0x1D)
-}
-
-// Whether they have one of 10.
-fn is_long(opcode: u8) -> bool
-    ensures { result ≡ is_long opcode }
-{
-    matches!(opcode, 0x3B | 0x3C)
 }
 
 impl<'a> Command<'a> {
@@ -79,9 +69,8 @@ impl<'a> Command<'a> {
     pub fn is_ill_formed(self) -> bool
         ensures { result ≡ ill_formed (heard self.entry) }
     {
-        let opcode = self.opcode();
         let len = self.cdb.len();
-        len < 2 || (is_short(opcode) && len != 6 || is_long(opcode) && len != 10)
+        len < 2 || cdb_length(self.opcode()).is_some_and(|known| len != known)
     }
 
     // The bytes of a WRITE BUFFER that are transferred.
