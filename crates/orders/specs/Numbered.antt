@@ -5,4 +5,4 @@ use Rattle.std.specs.Prelude.{ℕ, cond, ◌&&◌, List, length, Some, None, Opt
 abbrev pub numbered : List ℕ → ℕ → ℕ → Option (ℕ × ℕ)
 numbered bs count most =
     cond (nat_lt (length bs) 3) None
-    (cond (nat_lt (slice_index bs 1) count && nat_lt (slice_index bs 2) most) (Some (slice_index bs 1 , slice_index bs 2)) None)
+    (cond (nat_lt (slice_index bs 1) count && nat_lt (slice_index bs 2) most) (Some (slice_index bs 1, slice_index bs 2)) None)

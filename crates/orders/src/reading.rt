@@ -44,8 +44,7 @@ fn numbered(bytes: &[u8], count: u8, most: u8) -> Option<(usize, u8)>
     ensures { result ≡ numbered bytes.now count most }
 {
     match bytes {
-        [_, number, byte, ..] if *number < count && *byte < most =>
-            Some((usize::from(*number), *byte)),
+        [_, part, byte, ..] if *part < count && *byte < most => Some((usize::from(*part), *byte)),
         _ => None,
     }
 }

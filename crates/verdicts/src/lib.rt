@@ -1,17 +1,19 @@
 // What a command comes to.
 #![tactic(auto)]
 
-ghost use Rattle.std.specs.Prelude.{◌≡◌};
+ghost use Rattle.std.specs.Prelude.{◌≡◌, ◌&&◌, ◌==◌, length, nat_lt};
 ghost use Rattle.cdb.specs.Heard.{heard};
 ghost use Rattle.history.specs.Judgement.{is_page, judge, missed, obeying, opcode_verdict, unit_verdict};
 ghost use Rattle.history.specs.Orders.{order_of};
 ghost use Rattle.verdicts.specs.Judged.{verdict_as};
-ghost use Rattle.history.specs.Cdb.{sent};
+ghost use Rattle.history.specs.Cdb.{long_length, opcode, sent};
+ghost use Rattle.cdb.specs.Opcodes.{opcode_read};
 
 use answers::refusal::Refusal;
 use answers::sense::Sense;
 use backplane::configuration::Configuration;
 use cdb::Command;
+use cdb::opcode::Opcode;
 use orders::order::Order;
 use orders::reading::read_order;
 
@@ -43,6 +45,21 @@ fn is_page(id: u8) -> bool
     matches!(id, 0x00 | 0x01 | 0x03 | 0x04 | 0x05)
 }
 
+// The opcode of a command, if it is one that a shelf knows.
+fn opcode(command: Command<'_>) -> Option<Opcode>
+    ensures { result ≡ opcode_read (opcode (heard command.entry)) }
+{
+    Opcode::try_from(command.opcode()).ok()
+}
+
+// Whether it is a WRITE BUFFER with less data than its length says.
+fn lacks_data(command: Command<'_>) -> bool
+    ensures { result ≡ (opcode (heard command.entry) == 0x3B && nat_lt (length (heard command.entry).payload) (long_length (heard command.entry))) }
+{
+    matches!(opcode(command), Some(Opcode::WriteBuffer))
+        && command.payload.len() < command.long_length()
+}
+
 // What the data of a WRITE BUFFER comes to.
 fn obeying<'a>(c: Configuration, command: Command<'a>) -> Verdict<'a>
     ensures { verdict_as result ≡ obeying (order_of c (sent (heard command.entry))) }
@@ -57,15 +74,15 @@ fn obeying<'a>(c: Configuration, command: Command<'a>) -> Verdict<'a>
 fn by_opcode<'a>(c: Configuration, command: Command<'a>) -> Verdict<'a>
     ensures { verdict_as result ≡ opcode_verdict c (heard command.entry) }
 {
-    match (command.opcode(), command.mode(), command.buffer_id()) {
-        (0x00 | 0x1D, _, _) => Verdict::Pass,
-        (0x3B, 1, _) if command.long_length() == 0 => Verdict::Pass,
-        (0x3B, 1, _) => obeying(c, command),
-        (0x3C, 1, id) if is_page(id) => Verdict::ShowPage {
+    match (opcode(command), command.mode(), command.buffer_id()) {
+        (Some(Opcode::TestUnitReady | Opcode::SendDiagnostic), _, _) => Verdict::Pass,
+        (Some(Opcode::WriteBuffer), 1, _) if command.long_length() == 0 => Verdict::Pass,
+        (Some(Opcode::WriteBuffer), 1, _) => obeying(c, command),
+        (Some(Opcode::ReadBuffer), 1, id) if is_page(id) => Verdict::ShowPage {
             id,
             limit: command.long_length(),
         },
-        (0x3B | 0x3C, _, _) => Verdict::Reject(Sense::Field),
+        (Some(Opcode::WriteBuffer | Opcode::ReadBuffer), _, _) => Verdict::Reject(Sense::Field),
         _ => Verdict::Reject(Sense::Opcode),
     }
 }
@@ -74,9 +91,9 @@ fn by_opcode<'a>(c: Configuration, command: Command<'a>) -> Verdict<'a>
 fn on_unit<'a>(c: Configuration, attention: bool, command: Command<'a>) -> Verdict<'a>
     ensures { verdict_as result ≡ unit_verdict c attention (heard command.entry) }
 {
-    match command.opcode() {
-        0x12 => Verdict::Inquire(command.short_length()),
-        0x03 => Verdict::ShowSense(command.short_length()),
+    match opcode(command) {
+        Some(Opcode::Inquiry) => Verdict::Inquire(command.short_length()),
+        Some(Opcode::RequestSense) => Verdict::ShowSense(command.short_length()),
         _ if attention => Verdict::Attend,
         _ => by_opcode(c, command),
     }
@@ -86,9 +103,9 @@ fn on_unit<'a>(c: Configuration, attention: bool, command: Command<'a>) -> Verdi
 fn elsewhere(command: Command<'_>) -> Verdict<'_>
     ensures { verdict_as result ≡ missed (heard command.entry) }
 {
-    match command.opcode() {
-        0x12 => Verdict::MissInquiry(command.short_length()),
-        0x03 => Verdict::MissSense(command.short_length()),
+    match opcode(command) {
+        Some(Opcode::Inquiry) => Verdict::MissInquiry(command.short_length()),
+        Some(Opcode::RequestSense) => Verdict::MissSense(command.short_length()),
         _ => Verdict::Miss,
     }
 }
@@ -103,7 +120,7 @@ pub fn judge<'a>(c: Configuration, attention: bool, command: Command<'a>) -> Ver
     if command.is_ill_formed() {
         return Verdict::Refuse(Refusal::Cdb);
     }
-    if command.opcode() == 0x3B && command.payload.len() < command.long_length() {
+    if lacks_data(command) {
         return Verdict::Refuse(Refusal::Data);
     }
     if command.room < 64 {
