@@ -23,31 +23,6 @@ impl Configuration {
         ids: [0; 14],
     };
 
-    // The configuration with these fittings. Where a count is out of range, the IDs are not one for each slot or an ID is above 15, there is nothing at all.
-    pub fn of(fittings: Fittings) -> Configuration
-        ensures { result ≡ asked fittings.entry }
-    {
-        let Fittings {
-            counts,
-            lock,
-            alarm,
-            ids,
-        } = fittings;
-        let n = ids.len();
-        if counts.in_range() && (n == counts.slots as usize && all_at_most(ids, 15)) {
-            let mut table = [0; 14];
-            table[..n].copy_from_slice(ids);
-            Configuration {
-                counts,
-                lock,
-                alarm,
-                ids: table,
-            }
-        } else {
-            Configuration::NONE
-        }
-    }
-
     // This configuration, if its counts are in range and there is room for it; else nothing at all.
     pub fn kept(self, room: bool) -> Configuration
         ensures is { result ≡ keeping self room }
@@ -92,6 +67,33 @@ impl Configuration {
             Input::Supply(k) => k < counts.supplies as usize,
             Input::Temperature(k) => k < counts.sensors as usize,
             Input::OverTemperature(k) => k < counts.sensors as usize + counts.thermostats as usize,
+        }
+    }
+}
+
+// The configuration with these fittings. Where a count is out of range, the IDs are not one for each slot or an ID is above 15, there is nothing at all.
+impl From<Fittings<'_>> for Configuration {
+    ghost from_gives = { λ fittings c. c ≡ asked fittings };
+
+    fn from(fittings: Fittings<'_>) -> Configuration {
+        let Fittings {
+            counts,
+            lock,
+            alarm,
+            ids,
+        } = fittings;
+        let n = ids.len();
+        if counts.in_range() && (n == counts.slots as usize && all_at_most(ids, 15)) {
+            let mut table = [0; 14];
+            table[..n].copy_from_slice(ids);
+            Configuration {
+                counts,
+                lock,
+                alarm,
+                ids: table,
+            }
+        } else {
+            Configuration::NONE
         }
     }
 }

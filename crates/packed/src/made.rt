@@ -20,7 +20,7 @@ impl<'a> Packed<'a> {
         ensures image { result.image.now ≡ image.old }
     {
         Packed {
-            configuration: Configuration::of(fittings),
+            configuration: Configuration::from(fittings),
             frame: [0; 33],
             image,
         }

@@ -17,10 +17,10 @@ struct Places {
     end: usize,
 }
 
-impl Places {
-    fn of(c: Configuration) -> Places
-        ensures { result ≡ places_of c }
-    {
+impl From<Configuration> for Places {
+    ghost from_gives = { λ c places. places ≡ places_of c };
+
+    fn from(c: Configuration) -> Places {
         let fans = c.counts.slots as usize;
         let supplies = fans + c.counts.fans as usize;
         let temperatures = supplies + c.counts.supplies as usize;
@@ -40,7 +40,7 @@ impl Places {
 pub fn well_formed(c: Configuration, frame: &[u8]) -> bool
     ensures { result ≡ is_frame c frame.now }
 {
-    let from = Places::of(c);
+    let from = Places::from(c);
     frame.len() == from.end
         && (all_at_most(&frame[..from.fans], 1)
             && (all_at_most(&frame[from.fans..from.temperatures], 4)
@@ -54,7 +54,7 @@ pub(crate) fn sensed(c: Configuration, frame: &[u8], at: Input) -> u8
     requires fitted { senses c at ≡ true }
     ensures { result ≡ input_number (inputs_in c frame.now) at }
 {
-    let from = Places::of(c);
+    let from = Places::from(c);
     match at {
         Input::Presence(k) => (frame[k] == 1) as u8,
         Input::Fan(k) => condition_number(frame[from.fans + k]),

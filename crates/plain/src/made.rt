@@ -16,7 +16,7 @@ impl Plain {
         ensures shows { ⟦<Plain as Backplane>⟧.value result ≡ made_with (asked fittings.entry) }
     {
         Plain {
-            configuration: Configuration::of(fittings),
+            configuration: Configuration::from(fittings),
             tables: Tables::blank(),
         }
     }

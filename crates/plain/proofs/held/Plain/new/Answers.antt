@@ -3,5 +3,5 @@ use Rattle.plain.proofs.held.Plain.new.Goals as goal
 
 pub returns : goal.returns
 returns c =
-    let e = made_value c.of.result c.blank.result c.args.fittings c.of.ensures c.blank.ensures in
+    let e = made_value c.from.result c.blank.result c.args.fittings c.from.ensures c.blank.ensures in
     record { holds = e; shows = e }
