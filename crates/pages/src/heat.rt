@@ -1,13 +1,6 @@
 // The over-temperature flags as two bytes of the status page.
 ghost use Rattle.std.specs.Prelude.{◌≡◌, ◌^◌, ◌<◌, ◌≤◌};
-ghost use Rattle.pages.specs.Heat.{flag, flag_bits, heat_bytes};
-
-// Flag `k`, which is false where it is not fitted.
-fn flag(flags: &[bool], k: usize) -> bool
-    ensures { result ≡ flag flags.now k }
-{
-    flags.get(k).copied().unwrap_or(false)
-}
+ghost use Rattle.pages.specs.Heat.{flag_bits, heat_bytes};
 
 // The number whose bits 0 to `count - 1` are the flags from `at` on; flags that are not fitted are 0.
 fn flag_bits(flags: &[bool], at: usize, count: usize) -> u8
@@ -15,10 +8,9 @@ fn flag_bits(flags: &[bool], at: usize, count: usize) -> u8
     ensures bits { result ≡ flag_bits flags.now at count }
     ensures below { result < 2 ^ count }
 {
-    // `k` is the number of a bit, and of a flag that may not be fitted, so it is counted and not taken from the slice.
     let mut bits = 0;
-    for k in 0..count {
-        if flag(flags, at + k) {
+    for (k, flag) in flags.iter().skip(at).take(count).enumerate() {
+        if *flag {
             bits += 1 << k;
         }
     }
