@@ -1,6 +1,6 @@
 // An order, as it is decoded.
 
-// What an order does with a slot.
+// What an order does with a slot. `Idle` is an operation and no `None`: an order that asks for nothing is obeyed, and its slot is shown.
 #[derive(Clone, Copy)]
 pub enum Operation {
     Idle,
@@ -11,7 +11,7 @@ pub enum Operation {
 
 #[derive(Clone, Copy)]
 pub enum Order<'a> {
-    // three bytes for each slot
+    // three bytes for each slot; bytes and no triples, since the table stores the triples of any bytes
     Triples(&'a [u8]),
     Operate { slot: usize, operation: Operation },
     Speed { fan: usize, speed: u8 },

@@ -5,7 +5,7 @@ ghost use Rattle.history.specs.Orders.{both_rebuild, flagged, stored, triple_in}
 use enclosure::record::SlotRecord;
 use enclosure::record::rows::Row;
 
-// The row of a triple.
+// The row of a triple. It is no `From`, which would have to stand where `Row` does, in a crate that knows no triples.
 pub fn row(triple: [u8; 3]) -> Row
     ensures { result ≡ triple_in triple 0 }
 {

@@ -11,7 +11,7 @@ use backplane::interface::{Backplane, Unread};
 use backplane::places::Output;
 use backplane::rows::Row;
 
-// Makes each output of a row a number that the row takes.
+// Makes each output of a row a number that the row takes. By the places' numbers, since a backplane has no slice of its outputs.
 fn set_row<B: Backplane>(b: &mut B, row: Row, number: u8)
     requires { number < numbers (place_in row 0) }
     ensures { (f : Place → ℕ) → ((k : ℕ) → f (place_in row k) ≡ number) → B.Backplane.value b.new ≡ made_where (row_below row (row_length row (B.Backplane.value b.old).configuration)) f (B.Backplane.value b.old) }

@@ -21,6 +21,7 @@ impl Entry {
 }
 
 // An entry for each of up to 14 slots. Every row is a record.
+// What a call writes is said for each slot `j`, by an `if` at `k` that is spelled out: as a definition it would hide which slot changes and that all others stay.
 #[derive(Clone, Copy)]
 pub struct Table {
     entries: [Entry; 14],
@@ -69,6 +70,7 @@ impl Table {
     pub fn record(&self, k: usize) -> SlotRecord
         ensures { row_of result ≡ (slots_of self.now k).row }
     {
+        // This never fails, since the ghost field says that each row is a record.
         SlotRecord::try_from(self.slot(k).row).unwrap()
     }
 
@@ -125,7 +127,7 @@ impl Table {
         }
     }
 
-    // Slot `k` after an operation.
+    // Slot `k` after an operation. Its one call is that of `replace`: a function of both, with a closure, would add four clauses and save none of theirs.
     pub fn operate(&mut self, k: usize, operation: Operation)
         ensures slots { (j : ℕ) → j < 14 → slots_of self.new j ≡ (if nat_eq j k then operated (operation_as operation) (slots_of self.old j) else slots_of self.old j) }
         ensures counts { counts_of self.new ≡ counts_of self.old }

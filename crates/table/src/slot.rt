@@ -84,7 +84,7 @@ impl Slot {
         )
     }
 
-    // The number of its lamp.
+    // The number of its lamp. It is no `Lamp`, since all outputs of a backplane are set by numbers.
     pub fn lamp(self) -> u8
         ensures { result ≡ slot_lamp (slot_as self) }
     {
