@@ -2,6 +2,7 @@
 ghost use Rattle.std.specs.Prelude.{◌≡◌};
 ghost use Rattle.answers.specs.Numbers.{sense_code, sense_key, sense_qualifier};
 
+// `Nothing` is one of them and no `None` of an `Option`: its three numbers are 0, and REQUEST SENSE shows it as it shows every other sense.
 #[derive(Clone, Copy)]
 pub enum Sense {
     // there is nothing to tell

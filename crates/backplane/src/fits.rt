@@ -8,6 +8,7 @@ use crate::configuration::{Configuration, Fittings};
 use crate::places::{Input, Output};
 use enclosure::counts::PartCounts;
 
+// Nothing at all stands in place of a refusal: making and keeping a configuration cannot fail, and what has no parts answers each of them as not fitted.
 impl Configuration {
     // Nothing at all.
     pub const NONE: Configuration = Configuration {
@@ -119,6 +120,7 @@ pub fn all_at_most(bytes: &[u8], most: u8) -> bool
 }
 
 // The number of the condition with a number: past the last it is that of the last.
+// No `Condition` is made in between, since a frame has a number here and an input answers one.
 pub fn condition_number(number: u8) -> u8
     ensures { result ≡ condition_number (condition_of number) }
 {

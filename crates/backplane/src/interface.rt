@@ -14,6 +14,7 @@ pub struct Unfit;
 #[derive(Clone, Copy)]
 pub struct Unread;
 
+// What stands at an input or an output is a number and has no type of its own: a caller's image may hold any number at an output, and `set` refuses those out of range.
 pub trait Backplane {
     // What the backplane means: its configuration, its inputs and its outputs.
     ghost value: { Self → Value };

@@ -6,7 +6,7 @@ ghost use Rattle.packed.specs.Layout.{cell_of};
 use backplane::places::Output;
 use bits::Cell;
 
-// The cell of an output.
+// The cell of an output. It is no `From`, since it has a requirement, and a `From` can have none.
 pub(crate) fn place(at: Output) -> Cell
     requires { index at < 100 }
     ensures { result ≡ cell_of at }

@@ -11,6 +11,7 @@ use backplane::configuration::{Configuration, Fittings};
 use backplane::interface::{Backplane, Unfit};
 use backplane::places::Output;
 
+// A plain backplane has `new` and `shows` too, with no image and over other fields: a trait for both would have a ghost member for each side of each equation, and nothing calls them without knowing which of the two it has.
 impl<'a> Packed<'a> {
     // A backplane with these fittings over the caller's image, no bit of which is written, all its inputs 0.
     // Where a count is out of range, the IDs are not one for each slot, an ID is above 15 or the image has under 19 bytes, it has nothing at all.

@@ -1,4 +1,5 @@
 // Parts laid into a page and read from it, alone and in runs, the same for every kind.
+// What lays answers a place and lends no slice: it promises what all of the caller's page then holds, and a slice that is lent out would leave the rest unsaid.
 #![tactic(auto)]
 
 ghost use Rattle.std.specs.Prelude.{◌≡◌, ℕ, ◌+◌, ◌*◌, ◌<◌, ◌≤◌, List, length, if◌then◌else◌, Some, None, nat_le, slice_index_or};

@@ -88,7 +88,7 @@ impl Plain {
     }
 }
 
-// The packed backplane has the same steps over other things; a trait for those would have to state each contract of Backplane once more, for the step beneath it.
+// The packed backplane has the same steps over other things, `well_formed` and `sensed` among them; a trait for those would have to state each contract of Backplane once more, for the step beneath it.
 impl Backplane for Plain {
     ghost value = { λ s. value_of s.configuration s.tables };
 

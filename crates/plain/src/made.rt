@@ -9,6 +9,7 @@ use crate::tables::Tables;
 use backplane::configuration::{Configuration, Fittings};
 use backplane::interface::Backplane;
 
+// A packed backplane has `new` and `shows` too, with an image more and over other fields: a trait for both would have a ghost member for each side of each equation, and nothing calls them without knowing which of the two it has.
 impl Plain {
     // A backplane with these fittings, all its inputs and outputs 0. Where a count is out of range, the IDs are not one for each slot or an ID is above 15, it has nothing at all.
     pub fn new(fittings: Fittings) -> Plain
