@@ -18,5 +18,5 @@ returns c =
     let past = c.split_before-2.result.1.now in
     let cut : Cut text gap rest word.now past = record { blanks = search rules; start = c.split_before.ensures.whole; first = search rules; others = c.split_before-2.ensures.whole } in
     told c.is_empty.result word (pieces false past) c.then_some.result _ c.then_some.ensures
-      (λ e. let none : length word.now ≡ 0 = search rules in cut_none text gap rest word.now past cut none)
-      (λ e. let some : 0 < length word.now = search rules in cut_some text gap rest word.now past cut some)
+    (λ e. let none : length word.now ≡ 0 = search rules in cut_none text gap rest word.now past cut none)
+    (λ e. let some : 0 < length word.now = search rules in cut_some text gap rest word.now past cut some)
