@@ -39,7 +39,7 @@ next_read pairs k d l two =
 -- Two digits that are no byte.
 pub pair_none : (pairs : List (List ℕ)) (k : ℕ) (d xs : List ℕ) (whole : Option (List ℕ)) → k < length pairs → length (get_or pairs k d) ≡ 2 → None ≡ byte_of (get_or (get_or pairs k d) 0 0) (get_or (get_or pairs k d) 1 0) → after xs (hex_read (concat (drop k pairs))) ≡ whole → whole ≡ None
 pair_none pairs k d xs whole l two is inv =
-    sym (sym (ap (after xs) (next_read pairs k d l two ∙ ap (λ (o : Option ℕ). followed o (hex_read (concat (drop (k + 1) pairs)))) (sym is))) ∙ inv)
+    sym inv ∙ ap (after xs) (next_read pairs k d l two ∙ ap (λ (o : Option ℕ). followed o (hex_read (concat (drop (k + 1) pairs)))) (sym is))
 
 -- One more byte.
 pub pair_more : (pairs : List (List ℕ)) (k : ℕ) (d xs ys : List ℕ) (b : ℕ) (whole : Option (List ℕ)) → k < length pairs → length (get_or pairs k d) ≡ 2 → Some b ≡ byte_of (get_or (get_or pairs k d) 0 0) (get_or (get_or pairs k d) 1 0) → ys ≡ xs ++ b ∷ [] → after xs (hex_read (concat (drop k pairs))) ≡ whole → after ys (hex_read (concat (drop (k + 1) pairs))) ≡ whole
