@@ -16,7 +16,7 @@ fn is_present<B: Backplane>(b: &B, k: usize) -> bool
     b.input(Input::Presence(k)) == Some(1)
 }
 
-// Each slot at power-on, with its count.
+// Each slot at power-on, with its count. By number, since a backplane is asked by the number of a slot; and there may be fewer counts than slots.
 pub fn start_slots<B: Backplane>(table: &mut Table, b: &B, counts: &[u16])
     ensures slots { (k : ℕ) → k < 14 → slots_of table.new k ≡ (if nat_lt k (B.Backplane.value b.now).configuration.counts.slots then first_slot ((B.Backplane.value b.now).inputs.present k) else slots_of table.old k) }
     ensures counts { (k : ℕ) → k < 14 → counts_of table.new k ≡ (if nat_lt k (B.Backplane.value b.now).configuration.counts.slots then slice_index counts.now k else counts_of table.old k) }
@@ -27,7 +27,7 @@ pub fn start_slots<B: Backplane>(table: &mut Table, b: &B, counts: &[u16])
     }
 }
 
-// Each slot after a sample. The loop is a twin of the one above: a function of both would take a closure, whose clauses are longer than the loop.
+// Each slot after a sample, by number for the same reason. The loop is a twin of the one above: a function of both would take a closure, whose clauses are longer than the loop.
 pub fn see_slots<B: Backplane>(table: &mut Table, b: &B)
     ensures slots { (k : ℕ) → k < 14 → slots_of table.new k ≡ (if nat_lt k (B.Backplane.value b.now).configuration.counts.slots then sampled_slot (inserted (slots_of table.old k).state) ((B.Backplane.value b.now).inputs.present k) (slots_of table.old k) else slots_of table.old k) }
     ensures counts { (k : ℕ) → k < 14 → counts_of table.new k ≡ (if nat_lt k (B.Backplane.value b.now).configuration.counts.slots then counted (inserted (slots_of table.old k).state) ((B.Backplane.value b.now).inputs.present k) (counts_of table.old k) else counts_of table.old k) }

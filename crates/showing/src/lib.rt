@@ -24,7 +24,7 @@ pub fn show_slot<B: Backplane>(b: &mut B, k: usize, slot: Slot)
 pub fn show_slots<B: Backplane>(b: &mut B, table: &Table)
     ensures { B.Backplane.value b.new ≡ made_where (slots_below (B.Backplane.value b.old).configuration.counts.slots) (slot_number (slots_of table.now)) (B.Backplane.value b.old) }
 {
-    // By number, since the table has rows past the slots that are fitted.
+    // By number, since the table has no iterator, and a backplane is set by the number of a slot.
     for k in 0..b.configuration().counts.slots {
         show_slot(b, k as usize, table.slot(k as usize));
     }

@@ -60,7 +60,7 @@ fn lacks_data(command: Command<'_>) -> bool
         && command.payload.len() < command.long_length()
 }
 
-// What the data of a WRITE BUFFER comes to.
+// What the data of a WRITE BUFFER comes to. Configuration and command are no struct, here and below: `judge` takes them apart, and each function would read its fields through one more name.
 fn obeying<'a>(c: Configuration, command: Command<'a>) -> Verdict<'a>
     ensures { verdict_as result ≡ obeying (order_of c (sent (heard command.entry))) }
 {
@@ -70,7 +70,7 @@ fn obeying<'a>(c: Configuration, command: Command<'a>) -> Verdict<'a>
     }
 }
 
-// A command to logical unit 0 with no attention pending, and neither INQUIRY nor REQUEST SENSE.
+// A command to logical unit 0 with no attention pending, and neither INQUIRY nor REQUEST SENSE. Modes stay numbers, since 1 is the only one that means anything.
 fn by_opcode<'a>(c: Configuration, command: Command<'a>) -> Verdict<'a>
     ensures { verdict_as result ≡ opcode_verdict c (heard command.entry) }
 {
