@@ -4,7 +4,7 @@ ghost use Rattle.pages.specs.Heat.{flag_bits, heat_bytes};
 
 // The number whose bits 0 to `count - 1` are the flags from `at` on; flags that are not fitted are 0.
 fn flag_bits(flags: &[bool], at: usize, count: usize) -> u8
-    requires { (at ≤ 8) × (count ≤ 8) }
+    requires { count ≤ 8 }
     ensures bits { result ≡ flag_bits flags.now at count }
     ensures below { result < 2 ^ count }
 {

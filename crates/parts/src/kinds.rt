@@ -12,7 +12,7 @@ use enclosure::record::SlotRecord;
 use enclosure::record::rows::Row;
 use enclosure::slots::PhysicalState;
 
-// The impls for fan and supply differ in the type alone. With `Into<u8>` and `TryFrom<u8>` as supertraits each would state a law in place of each function, and a plain byte would need two impls more.
+// The impls for fan and supply are alike: one for every type with `Into<u8>` and `TryFrom<u8>` could not prove the laws, and with those as supertraits each would state a law in place of each function, and a plain byte would need two impls more.
 // A fan is its code.
 impl ByteCode for FanCode {
     ghost code = { fan_byte };
