@@ -16,6 +16,6 @@ pub enum Order<'a> {
     Operate { slot: usize, operation: Operation },
     Speed { fan: usize, speed: u8 },
     Switch { supply: usize, on: bool },
-    // the three bytes of global flags, as a shelf keeps them
+    // the three bytes of global flags as they came, in an array as a shelf has it
     Global([u8; 3]),
 }

@@ -30,7 +30,7 @@ fn operation(flags: u8) -> Option<Operation>
     }
 }
 
-// Order 10h: a triple for each slot. Configuration and bytes are no struct, here and below, since each reader needs one count of the one and a pattern of the other.
+// Order 10h: a triple for each slot. Configuration and bytes are no struct, here and below, since each reader needs one count of the one and some bytes of the other.
 fn slot_status(c: Configuration, bytes: &[u8]) -> Option<Order<'_>>
     ensures { option_map order_as result ≡ slot_status c bytes.now }
 {

@@ -27,7 +27,7 @@ pub fn has_both_rebuild(triple: Row) -> bool
     SlotRecord::try_from(to_store(triple)).is_err()
 }
 
-// The record that it becomes: reserved bits are 0.
+// The record that it becomes: reserved bits are 0. It is a row as the triple is, and so no `From`.
 pub fn to_store(triple: Row) -> Row
     ensures { result ≡ stored triple }
 {

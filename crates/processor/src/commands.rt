@@ -19,7 +19,7 @@ use replies::reply::{Ended, reply};
 use verdicts::{Verdict, judge};
 
 impl Running {
-    // Settles a command that comes to a verdict and is not refused: answers it, then does what it does to its host and to the shelf. That the buffer has 64 bytes is said in the clauses: `command` takes a slice of any length, and a type of such buffers would be narrower.
+    // Settles a command that comes to a verdict and is not refused: answers it, then does what it does to its host and to the shelf. That the buffer has 64 bytes is said in the clauses: `command` takes a slice of any length, and the promise tells all of it.
     fn settle<B: Backplane>(
         &mut self,
         b: &mut B,

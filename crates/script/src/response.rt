@@ -3,7 +3,7 @@ ghost use Rattle.std.specs.Prelude.{◌≡◌};
 ghost use Rattle.std.specs.Option.{option_map};
 ghost use Rattle.script.specs.Texts.{readable, spoken, text_of};
 
-// Three cases with names, and no `Result` in an `Option`: a complaint is printed as an answer is, and fails nothing.
+// Three cases with names, and no `Result` in an `Option`: a complaint is printed as an answer is, and the script goes on.
 #[derive(Drop)]
 pub enum Response {
     // The line is blank or a comment.

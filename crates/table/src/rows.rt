@@ -127,7 +127,7 @@ impl Table {
         }
     }
 
-    // Slot `k` after an operation. Its one call is that of `replace`: a function of both, with a closure, would add four clauses and save none of theirs.
+    // Slot `k` after an operation. Its body is that of `replace` with another step: a function of both, with a closure, would add four clauses and save none of theirs.
     pub fn operate(&mut self, k: usize, operation: Operation)
         ensures slots { (j : ℕ) → j < 14 → slots_of self.new j ≡ (if nat_eq j k then operated (operation_as operation) (slots_of self.old j) else slots_of self.old j) }
         ensures counts { counts_of self.new ≡ counts_of self.old }

@@ -64,7 +64,7 @@ impl Slot {
         }
     }
 
-    // Whether a drive is in it.
+    // Whether a drive is in it. It and `is_connected` ask for other states, one pattern each.
     pub fn is_inserted(self) -> bool
         ensures { result ≡ inserted self.state }
     {
