@@ -26,6 +26,7 @@ impl<'a> Command<'a> {
         self.cdb.get(k).copied().unwrap_or(0)
     }
 
+    // The first byte. It, the buffer ID and the short length are three names for three bytes, as the clauses have them.
     pub fn opcode(self) -> u8
         ensures { result ≡ opcode (heard self.entry) }
     {

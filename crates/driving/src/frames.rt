@@ -8,7 +8,7 @@ use backplane::interface::Backplane;
 use backplane::places::Input;
 use table::rows::Table;
 
-// Whether a drive is in a slot.
+// Whether a drive is in a slot. Other inputs have a line like this where they are asked: each promise names its own input.
 fn is_present<B: Backplane>(b: &B, k: usize) -> bool
     requires { k < (B.Backplane.value b.now).configuration.counts.slots }
     ensures { result ≡ (B.Backplane.value b.now).inputs.present k }

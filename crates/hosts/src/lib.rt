@@ -12,6 +12,7 @@ ghost use Rattle.verdicts.specs.Judged.{verdict_as};
 use answers::sense::Sense;
 use verdicts::Verdict;
 
+// Stored sense and pending attention are facts of their own: each may be there without the other.
 #[derive(Clone, Copy)]
 pub struct Host {
     pub sense: Option<Sense>,
@@ -71,6 +72,7 @@ impl Host {
     }
 }
 
+// One of each of the 16 hosts, in memory of a fixed size: firmware has no heap.
 #[derive(Clone, Copy)]
 pub struct Hosts {
     each: [Host; 16],

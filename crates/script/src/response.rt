@@ -13,7 +13,7 @@ pub enum Response {
 }
 
 impl Response {
-    // The text to print, if there is one.
+    // The text to print, if there is one: it is borrowed, as by `as_str`, and so no `From`.
     pub fn text(&self) -> Option<&str>
         ensures { option_map (λ x. x.now) result ≡ text_of (spoken self.now) }
     {

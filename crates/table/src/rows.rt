@@ -20,7 +20,7 @@ impl Entry {
     };
 }
 
-// An entry for each of up to 14 slots. Every row is a record.
+// An entry for each of up to 14 slots, in memory of a fixed size: firmware has no heap. Every row is a record.
 // What a call writes is said for each slot `j`, by an `if` at `k` that is spelled out: as a definition it would hide which slot changes and that all others stay.
 #[derive(Clone, Copy)]
 pub struct Table {
