@@ -1,7 +1,7 @@
 // A line that is gathered from chunks of input.
 #![tactic(auto)]
 
-ghost use Rattle.std.specs.Prelude.{◌≡◌, ℕ, true, List, ◌++◌, Option, vec_items, is_ok, IfOk, if◌then◌else◌};
+ghost use Rattle.std.specs.Prelude.{◌≡◌, ℕ, true, cond, List, ◌++◌, None, Some, Option, vec_items, is_ok, IfOk, if◌then◌else◌};
 ghost use Rattle.std.specs.Option.{option_map};
 ghost use Rattle.words.specs.Words.{first_line};
 ghost use Rattle.gathered.specs.Gathered.{add, begun, newline_in, nothing_in, used_of};
@@ -14,16 +14,17 @@ use words::split_line;
 mod tests;
 
 // The bytes of a line so far, or nothing once the line is too long.
+// The room for them stays when a line is too long, for the lines that follow: an `Option` of the bytes would give it away, and to take it anew is work and can fail.
 #[derive(Drop)]
 pub struct LineBuffer {
-    bytes: Option<Vec<u8>>,
-    heap: Global,
+    bytes: Vec<u8>,
+    over: bool,
 }
 
 impl Model for LineBuffer {
     ghost Value = { Option (List ℕ) };
 
-    ghost view = { λ b. option_map vec_items b.bytes };
+    ghost view = { λ b. cond b.over None (Some (vec_items b.bytes)) };
 }
 
 // How many bytes of a chunk were taken, and whether the line ends with them: both mean something in every case.
@@ -42,8 +43,8 @@ impl LineBuffer {
         ensures { result ≡ begun }
     {
         LineBuffer {
-            bytes: Some(Vec::new(heap)),
-            heap,
+            bytes: Vec::new(heap),
+            over: false,
         }
     }
 
@@ -51,15 +52,14 @@ impl LineBuffer {
     fn add(&mut self, more: &[u8]) -> Result<(), AllocError>
         ensures { self.new ≡ (if is_ok result then add self.old more.now else self.old) }
     {
-        match &mut self.bytes {
-            Some(bytes) if bytes.len().saturating_add(more.len()) <= Self::LONGEST => {
-                bytes.extend_from_slice(more)
-            }
-            _ => {
-                self.bytes = None;
-                Ok(())
-            }
+        if self.over {
+            return Ok(());
         }
+        if self.bytes.len().saturating_add(more.len()) <= Self::LONGEST {
+            return self.bytes.extend_from_slice(more);
+        }
+        self.over = true;
+        Ok(())
     }
 
     // Takes what a chunk has of the line, and the newline that ends it. For want of memory the line stays as it was.
@@ -89,16 +89,14 @@ impl LineBuffer {
     pub fn line(&self) -> Option<&[u8]>
         ensures { option_map (λ x. x.now) result ≡ self.now }
     {
-        self.bytes.as_deref()
+        (!self.over).then_some(self.bytes.as_slice())
     }
 
     // The next line begins.
     pub fn begin(&mut self)
         ensures { self.new ≡ begun }
     {
-        match &mut self.bytes {
-            Some(bytes) => bytes.clear(),
-            None => self.bytes = Some(Vec::new(self.heap)),
-        }
+        self.bytes.clear();
+        self.over = false;
     }
 }
