@@ -9,7 +9,7 @@ use gathered::LineBuffer;
 use script::lines::answer;
 use script::response::Response;
 use script::session::Session;
-use std::alloc::Global;
+use std::alloc::{AllocError, Global};
 use std::fs::File;
 use std::io::{BufRead, BufReader, Read};
 use std::{env, io};
@@ -69,13 +69,19 @@ impl<S: Session> ScriptRun<S> {
     }
 
     // Answers the line that was gathered, and prints what is said. The next line begins.
-    fn answer_line(&mut self, rt: &HostRuntime) -> anyhow::Result<()>
-        ensures readable { IfOk result (λ _. self.new.readable ≡ (self.old.readable && readable (taken_spoken S.call_read S.call_spoken self.old.number (S.held self.old.session) self.old.line))) }
+    // A failed write stays apart from want of memory: one error for both takes 280 bytes, which each line without one would clear and copy.
+    fn answer_line(&mut self, rt: &HostRuntime) -> Result<io::Result<()>, AllocError>
+        ensures readable { IfOk result (λ printed. IfOk printed (λ _. self.new.readable ≡ (self.old.readable && readable (taken_spoken S.call_read S.call_spoken self.old.number (S.held self.old.session) self.old.line)))) }
     {
         let said = answer(&mut self.session, rt.alloc(), self.number, &mut self.line)?;
-        self.readable &= print_response(rt, &said)?;
-        self.number = self.number.saturating_add(1);
-        Ok(())
+        match print_response(rt, &said) {
+            Ok(readable) => {
+                self.readable &= readable;
+                self.number = self.number.saturating_add(1);
+                Ok(Ok(()))
+            }
+            Err(e) => Ok(Err(e)),
+        }
     }
 
     // Answers each line of the input.
@@ -88,13 +94,13 @@ impl<S: Session> ScriptRun<S> {
         for _ in 0..u64::MAX {
             match next_chunk(input, &mut self.line)? {
                 Chunk::GoesOn => {}
-                Chunk::EndsLine => self.answer_line(rt)?,
+                Chunk::EndsLine => self.answer_line(rt)??,
                 Chunk::EndsInput => break,
             }
         }
         // The last line may end without a newline.
         if !self.line.is_empty() {
-            self.answer_line(rt)?;
+            self.answer_line(rt)??;
         }
         Ok(())
     }
