@@ -1,5 +1,5 @@
 -- Whether bytes w are a text t, from what is known of the text s that they are, or of that they are none.
-use Rattle.std.proofs.Common.{◌≡◌, ℕ, List, true, false, rules, refl, sym, subst, ◌∙◌}
+use Rattle.std.proofs.Common.{◌≡◌, ℕ, ◌<◌, List, true, false, length, rules, refl, sym, ap, subst, ◌∙◌, arith}
 use Rattle.std.proofs.lemmas.Slice.Eq.{bytes_eq-Decides}
 use Rattle.std.proofs.lemmas.Str.{IsUtf8-from_ascii}
 use Rattle.std.specs.Str.{IsAscii, IsUtf8}
@@ -22,3 +22,7 @@ is_other s w t n is =
 -- bytes that are no UTF-8 are no text
 pub is_no_text : (w t : List ℕ) → (IsUtf8 w → ⊥) → IsAscii t → is_text w t ≡ false
 is_no_text w t n u = is_other w w t (λ e. n (subst IsUtf8 (sym e) (IsUtf8-from_ascii t u))) refl
+
+-- bytes that are more than those of a text are not that text
+pub is_long : (w t : List ℕ) → length t < length w → is_text w t ≡ false
+is_long w t l = is_other w w t (λ e. (let same : length w ≡ length t = ap length e in absurd (omega (arith, same, l)))) refl

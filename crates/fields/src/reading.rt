@@ -95,6 +95,10 @@ pub fn number<'a>(words: &mut Words<'a>, most: u32) -> Result<u32, Unreadable<'a
 fn run_named(word: &[u8]) -> Option<Run>
     ensures { result ≡ run_read word.now }
 {
+    // A longer word is no name, and is not looked through as a text.
+    if word.len() > 12 {
+        return read_number(word, 255).map(Run::from);
+    }
     match str::from_utf8(word) {
         Ok("fans") => Some(Run::Fans),
         Ok("supplies") => Some(Run::Supplies),

@@ -50,6 +50,10 @@ const IMAGE: usize = 19;
 fn kind_named(word: &[u8]) -> Option<Kind>
     ensures { result ≡ kind_read word.now }
 {
+    // A longer word is no kind, and is not looked through as a text.
+    if word.len() > 6 {
+        return None;
+    }
     match str::from_utf8(word) {
         Ok("plain") => Some(Kind::Plain),
         Ok("packed") => Some(Kind::Packed),
@@ -68,6 +72,10 @@ fn read_kind<'a>(words: &mut Words<'a>) -> Result<Kind, Unreadable<'a>>
 fn truth_named(word: &[u8]) -> Option<bool>
     ensures { result ≡ truth_read word.now }
 {
+    // A longer word is neither, and is not looked through as a text.
+    if word.len() > 3 {
+        return None;
+    }
     match str::from_utf8(word) {
         Ok("yes") => Some(true),
         Ok("no") => Some(false),

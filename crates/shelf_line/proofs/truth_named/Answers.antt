@@ -1,6 +1,6 @@
-use Rattle.std.proofs.Common.{rules, refl, codes}
+use Rattle.std.proofs.Common.{◌<◌, length, rules, refl, codes, arith}
 use Rattle.std.specs.Str.{IsUtf8}
-use Rattle.fields.proofs.Spelled.{is_same, is_other, is_no_text}
+use Rattle.fields.proofs.Spelled.{is_long, is_same, is_other, is_no_text}
 use Rattle.shelf_line.proofs.truth_named.Goals as goal
 
 pub returns-in-Ok-yes : goal.returns-in-Ok-yes
@@ -17,3 +17,9 @@ returns-in_default-2 c =
     let word = c.args.word.now in
     let none : IsUtf8 word → ⊥ = search rules in
     rw (is_no_text word (codes "yes") none (search rules), is_no_text word (codes "no") none (search rules)) refl
+
+pub returns-then-word-gt3 : goal.returns-then-word-gt3
+returns-then-word-gt3 c =
+    let word = c.args.word.now in
+    let long : 3 < length word = search rules in
+    rw (is_long word (codes "yes") (omega (arith, long)), is_long word (codes "no") (omega (arith, long))) refl

@@ -2,7 +2,7 @@ use Rattle.std.proofs.Common.{rules, refl, ◌≡◌, sym, ◌∙◌}
 use Rattle.std.specs.Str.{IsUtf8}
 use Rattle.digits.specs.Number.{number_read}
 use Rattle.fields.specs.Fields.{run_of_number}
-use Rattle.fields.proofs.RunNames.{other_name, no_name}
+use Rattle.fields.proofs.RunNames.{other_name, no_name, long_name}
 use Rattle.fields.proofs.Spelled.{is_same, is_other}
 use Rattle.fields.proofs.reading.run_named.Goals as goal
 use Rattle.fields.proofs.reading.run_named.Goals.{in_default-via-in-Ok+in_default, in_default-via-in_default}
@@ -28,7 +28,7 @@ returns-in-Ok-counts c = rw (is_other _ _ _ c.in-Ok-counts.not-fans c.in-Ok-coun
 pub returns-in_default : goal.returns-in_default
 returns-in_default c =
     let word = c.args.word.now in
-    let number : c.map.result ≡ run_of_number (number_read 255 word) = search rules in
+    let number : c.map-in_default.result ≡ run_of_number (number_read 255 word) = search rules in
     elim c.in_default.branch [
       | in_default-via-in-Ok+in_default w ↦
           number ∙ sym (other_name _ word w.in_default.not-fans w.in_default.not-supplies w.in_default.not-ids w.in_default.not-temperatures w.in_default.not-slots w.in_default.not-counts (search rules))
@@ -36,3 +36,9 @@ returns-in_default c =
           let none : IsUtf8 word → ⊥ = search rules in
           number ∙ sym (no_name word none)
     ]
+
+pub returns-then-word-gt12 : goal.returns-then-word-gt12
+returns-then-word-gt12 c =
+    let word = c.args.word.now in
+    let number : c.map.result ≡ run_of_number (number_read 255 word) = search rules in
+    number ∙ sym (long_name word (search rules))
