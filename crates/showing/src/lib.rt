@@ -13,6 +13,8 @@ use table::rows::Table;
 use table::slot::Slot;
 
 // Sets the lamp of a slot, and whether it is connected, if there is such a slot. All else is as it was.
+// Within the loop over the slots the compiler works out once what a backplane is fitted with.
+#[inline(always)]
 pub fn show_slot<B: Backplane>(b: &mut B, k: usize, slot: Slot)
     ensures { B.Backplane.value b.new ≡ made_where (of_slot (B.Backplane.value b.old).configuration k) (slot_number (λ _. slot_as slot)) (B.Backplane.value b.old) }
 {
