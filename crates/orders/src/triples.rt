@@ -1,6 +1,7 @@
 // The triples of an order 10h.
 ghost use Rattle.std.specs.Prelude.{◌≡◌};
 ghost use Rattle.history.specs.Orders.{both_rebuild, flagged, stored, triple_in};
+ghost use Rattle.orders.specs.Decoded.{first_of, parted};
 
 use enclosure::record::SlotRecord;
 use enclosure::record::rows::Row;
@@ -35,5 +36,15 @@ pub fn to_store(triple: Row) -> Row
         more: triple.more % 4,
         last: 0,
         ..triple
+    }
+}
+
+// The first triple, and the rest; nothing where under three bytes are left. Bytes that come a few at a time are read by it, where `as_chunks` takes them all.
+pub fn next_triple(bytes: &[u8]) -> Option<(Row, &[u8])>
+    ensures { parted result ≡ first_of bytes.now }
+{
+    match bytes {
+        [flags, more, last, rest @ ..] => Some((row([*flags, *more, *last]), rest)),
+        _ => None,
     }
 }
