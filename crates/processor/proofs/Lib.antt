@@ -5,3 +5,4 @@ pub mod Commanding
 pub mod Following
 pub mod NotRefused
 pub mod Sampling
+pub mod Keeping

@@ -1,7 +1,9 @@
 // Power-on, samples and resets.
 // Each call, and `command` too, writes `follows`, `refused` and `keeps` of its own: `follows` names what the call follows, and the three facts are named once, in specs/Inside.
+ghost use Rattle.std.specs.Prelude.{◌≡◌, ℕ, List};
 ghost use Rattle.history.specs.Shelf.{power_on, reset, sample};
-ghost use Rattle.processor.specs.Inside.{Follows, IsUnaltered, Keeps};
+ghost use Rattle.processor.specs.Follows.{Unaltered};
+ghost use Rattle.processor.specs.Inside.{Follows, FollowsIn, IsUnaltered, Keeps, powered_by};
 
 use crate::shelf::Shelf;
 use crate::state::Running;
@@ -13,6 +15,21 @@ use showing::show_slots;
 use startup::switch_on;
 use table::memory::Memory;
 use table::rows::Table;
+
+impl Running {
+    // Samples a frame.
+    fn sample<B: Backplane>(&mut self, b: &mut B, frame: &[u8]) -> Result<(), Refusal>
+        ensures follows { (identity : List ℕ) → FollowsIn B.Backplane.reading (B.Backplane.value b.old) (powered_by self.old identity) (sample frame.now) result (B.Backplane.value b.new) (powered_by self.new identity) }
+        ensures refused { (identity : List ℕ) → Unaltered result (B.Backplane.value b.old) (B.Backplane.value b.new) (powered_by self.old identity) (powered_by self.new identity) }
+        ensures configuration { (B.Backplane.value b.new).configuration ≡ (B.Backplane.value b.old).configuration }
+        ensures beside { (B.Backplane.value b.new).beside ≡ (B.Backplane.value b.old).beside }
+    {
+        b.sample(frame).map_err(|_| Refusal::Frame)?;
+        see_slots(&mut self.memory.table, &*b);
+        show_slots(b, &self.memory.table);
+        Ok(())
+    }
+}
 
 impl<B: Backplane> Shelf<'_, B> {
     // Powers the shelf on, with an insertion count for each slot.
@@ -49,12 +66,10 @@ impl<B: Backplane> Shelf<'_, B> {
         ensures refused { IsUnaltered B.Backplane.value result self.old self.new }
         ensures keeps { Keeps B.Backplane.value self.old self.new }
     {
-        let mut running = self.state.running.ok_or(Refusal::Unpowered)?;
-        self.backplane.sample(frame).map_err(|_| Refusal::Frame)?;
-        see_slots(&mut running.memory.table, &*self.backplane);
-        show_slots(self.backplane, &running.memory.table);
-        self.state.running = Some(running);
-        Ok(())
+        match &mut self.state.running {
+            Some(running) => running.sample(self.backplane, frame),
+            None => Err(Refusal::Unpowered),
+        }
     }
 
     // Drops every stored sense, and makes attention pending for all hosts.
@@ -63,9 +78,12 @@ impl<B: Backplane> Shelf<'_, B> {
         ensures refused { IsUnaltered B.Backplane.value result self.old self.new }
         ensures keeps { Keeps B.Backplane.value self.old self.new }
     {
-        let mut running = self.state.running.ok_or(Refusal::Unpowered)?;
-        running.hosts = Hosts::fresh();
-        self.state.running = Some(running);
-        Ok(())
+        match &mut self.state.running {
+            Some(running) => {
+                running.hosts = Hosts::fresh();
+                Ok(())
+            }
+            None => Err(Refusal::Unpowered),
+        }
     }
 }

@@ -5,8 +5,8 @@ ghost use Rattle.hosts.specs.Held.{hosts_of};
 ghost use Rattle.replies.specs.Answered.{answer_in, is_refusal, laid, result_of};
 ghost use Rattle.table.specs.Table.{counts_of, slots_of};
 ghost use Rattle.verdicts.specs.Judged.{verdict_as};
-ghost use Rattle.processor.specs.Follows.{Untouched};
-ghost use Rattle.processor.specs.Inside.{FollowsCommand, IsUnaltered, Keeps};
+ghost use Rattle.processor.specs.Follows.{Unaltered, Untouched};
+ghost use Rattle.processor.specs.Inside.{CommandedIn, FollowsCommand, IsUnaltered, Keeps, powered_by};
 ghost use Rattle.processor.specs.Settled.{flags_by, slots_by, value_by};
 
 use crate::shelf::Shelf;
@@ -44,6 +44,36 @@ impl Running {
         }
         ended
     }
+
+    // Takes a command.
+    fn command<'a, B: Backplane>(
+        &mut self,
+        b: &mut B,
+        identity: &[u8; 36],
+        host: u8,
+        cdb: &'a [u8],
+        payload: &'a [u8],
+        buffer: &mut [u8],
+    ) -> Result<Ended, Refusal>
+        ensures follows { CommandedIn B.Backplane.reading (B.Backplane.value b.old) (powered_by self.old identity.now) (record { host = host; cdb = cdb.now; payload = payload.now; room = length buffer.old }) buffer.old buffer.new result (B.Backplane.value b.new) (powered_by self.new identity.now) }
+        ensures untouched { Untouched result buffer.old buffer.new }
+        ensures refused { Unaltered result (B.Backplane.value b.old) (B.Backplane.value b.new) (powered_by self.old identity.now) (powered_by self.new identity.now) }
+        ensures configuration { (B.Backplane.value b.new).configuration ≡ (B.Backplane.value b.old).configuration }
+        ensures beside { (B.Backplane.value b.new).beside ≡ (B.Backplane.value b.old).beside }
+    {
+        let command = Command {
+            host,
+            cdb,
+            payload,
+            room: buffer.len(),
+        };
+        let attention = self.hosts.get(host).attention;
+        let verdict = judge(b.configuration(), attention, command);
+        if let Verdict::Refuse(refusal) = verdict {
+            return Err(refusal);
+        }
+        Ok(self.settle(b, identity, host, verdict, buffer))
+    }
 }
 
 impl<B: Backplane> Shelf<'_, B> {
@@ -60,21 +90,16 @@ impl<B: Backplane> Shelf<'_, B> {
         ensures refused { IsUnaltered B.Backplane.value result self.old self.new }
         ensures keeps { Keeps B.Backplane.value self.old self.new }
     {
-        let mut running = self.state.running.ok_or(Refusal::Unpowered)?;
-        let command = Command {
-            host,
-            cdb,
-            payload,
-            room: buffer.len(),
-        };
-        let attention = running.hosts.get(host).attention;
-        let verdict = judge(self.backplane.configuration(), attention, command);
-        if let Verdict::Refuse(refusal) = verdict {
-            return Err(refusal);
+        match &mut self.state.running {
+            Some(running) => running.command(
+                self.backplane,
+                &self.state.identity,
+                host,
+                cdb,
+                payload,
+                buffer,
+            ),
+            None => Err(Refusal::Unpowered),
         }
-        let identity = &self.state.identity;
-        let ended = running.settle(self.backplane, identity, host, verdict, buffer);
-        self.state.running = Some(running);
-        Ok(ended)
     }
 }

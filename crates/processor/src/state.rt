@@ -2,7 +2,7 @@
 use hosts::Hosts;
 use table::memory::Memory;
 
-// What it keeps while it is powered. A call works on a copy, and stores it once nothing can refuse the call any more.
+// What it keeps while it is powered. A call changes it in place, once nothing can refuse the call any more.
 #[derive(Clone, Copy)]
 pub struct Running {
     pub(crate) memory: Memory,
