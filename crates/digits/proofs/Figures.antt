@@ -27,3 +27,7 @@ pub number_back : (most n : ℕ) (word : List ℕ) → most < 2 ^ 32 → n ≤ m
 number_back most n word big h e =
     let fits : n < 2 ^ 64 = omega arith in
     ap (number_after most 0) e ∙ ap (λ (b : Bool). cond b (at_most most (value_from 0 (decimal n))) None) (digits_decimal own n fits) ∙ ap (at_most most) (digits_value-decimal own n fits) ∙ ap (λ (b : Bool). cond b (Some n) None) (le-leb n most h)
+
+-- a number with a further digit is at most what it may be
+pub digit_bound : (most n c m : ℕ) → Some m ≡ digit_after most n c → m ≤ most
+digit_bound most n c m e = grind (arith, nat_tests)

@@ -1,12 +1,16 @@
 -- The first elements of an array that a closure made, listed.
-use Rattle.std.proofs.Common.{◌≡◌, ℕ, zero, suc, ◌+◌, ◌<◌, ◌≤◌, List, [], ◌∷◌, ◌++◌, length, get_or, take, sym, refl, ap, ◌∙◌, ap₂, subst, inl, inr, arith}
+use Rattle.std.proofs.Common.{◌≡◌, ℕ, zero, suc, ◌+◌, ◌<◌, ◌≤◌, List, [], ◌∷◌, ◌++◌, length, get_or, take, Some, sym, refl, ap, ◌∙◌, ap₂, subst, inl, inr, arith}
 use Rattle.std.proofs.Math.Seq.{take-suc}
 use Rattle.std.proofs.lemmas.Bool.{cases_lt}
 use Rattle.std.proofs.lemmas.List.{flat_map_more}
 use Rattle.std.specs.Array.{IsFromFnResult, IsFromFnResultFrom}
 use Rattle.std.specs.List.{flat_map}
 use denote.Param.Members.{Mut, Called}
+use Rattle.enclosure.specs.Conditions.{condition_number}
+use Rattle.enclosure.specs.declared.conditions.Condition.{Condition}
+use Rattle.enclosure.specs.declared.conditions.Condition.TheVariants.{Works, Broken, Absent, PresentOnly, Unknown}
 use Rattle.history.specs.Replies.{listed}
+use Rattle.gathering.specs.Conditions.{condition_at}
 
 -- the first elements are those of a function
 pub listed_each : {X : Type 0} (h : ℕ → X) (xs : List X) (n : ℕ) → n ≤ length xs → ((k : ℕ) (d : X) → k < n → get_or xs k d ≡ h k) → take n xs ≡ listed h n
@@ -38,3 +42,11 @@ module _ {F X : Type 0} (g : Mut F (ℕ × Unit {0}) X) (f : F) (P : ℕ → X �
 pub gathered : {F X : Type 0} (g : Mut F (ℕ × Unit {0}) X) (f : F) (h : ℕ → X) (n : ℕ) (ys : List X) (m : ℕ) → IsFromFnResult g f ys m → n ≤ m
     → ((k : ℕ) (y : X) (q : F) → Called g f (k, tt) y q → (q ≡ f) × (k < n → y ≡ h k)) → take n ys ≡ listed h n
 gathered g f h n ys m r l gives = listed_each h ys n (omega (arith, r.long)) (λ k d b. made_each g f (λ j y. j < n → y ≡ h j) gives ys m r k d (omega arith) b)
+
+-- the number of a condition is read as that condition
+pub condition_back : (q : Condition) → condition_at (Some (condition_number q)) ≡ q
+condition_back Works = refl
+condition_back Broken = refl
+condition_back Absent = refl
+condition_back PresentOnly = refl
+condition_back Unknown = refl

@@ -1,12 +1,12 @@
 -- Two fitted outputs are one, or share no bit; so a write of one output leaves all else.
-use Rattle.std.proofs.Common.{◌≡◌, ℕ, ◌<◌, ◌≤◌, Bool, true, false, cond, ◌&&◌, ltb, leb, List, length, MatchResult, is_ok, Ok, Err, Result, sym, refl, ap, ◌∙◌, subst, ⊎_elim, arith, le-ltb, lt-ltb, leb-true}
+use Rattle.std.proofs.Common.{◌≡◌, ℕ, ◌<◌, ◌≤◌, Bool, true, false, cond, ◌&&◌, ltb, leb, List, length, MatchResult, is_ok, Ok, Err, Result, ◌⊎◌, sym, refl, ap, ◌∙◌, subst, inl, inr, ⊎_elim, arith, le-ltb, lt-ltb, leb-true}
 use mathlib.Core.Option.{some}
 use base.Fml.{GName}
 use borrow.Author.Tests.{clash}
-use Rattle.std.proofs.lemmas.Bool.{and_from, and_parts, cases_Bool, cond_both, cond-false, cond-true, eqb-true, false_from_ne_true}
+use Rattle.std.proofs.lemmas.Bool.{and_from, and_parts, cases_Bool, cases_eq, cond_both, cond-false, cond-true, eqb-true, false_from_ne_true, ltb-true, ne_eqb}
 use Rattle.std.proofs.lemmas.Bool.Decides.{nat_tests}
 use Rattle.bits.specs.declared.Cell.{Cell}
-use Rattle.bits.specs.Image.{Put, bit, byte_of, held, limit, within}
+use Rattle.bits.specs.Image.{Apart, Put, bit, byte_of, held, limit, within}
 use Rattle.bits.proofs.Told.{same_held}
 use Rattle.backplane.specs.Configured.{kept, none}
 use Rattle.backplane.specs.Few.{few}
@@ -123,3 +123,43 @@ pub put_there : {A E : Type 0} (old new : List ℕ) (at cell : Cell) (n : ℕ) (
     → MatchResult r (λ _. Put old new at n) (λ _. new ≡ old) → Put old new cell n
 put_there old new at cell n (Ok _) is says fit done = let P : Cell → Type 0 = λ x. Put old new x n in subst P is done
 put_there {A = A} old new at cell n (Err e) is says fit done = absurd (clash (put_done {A = A} old at cell n (Err e) is says fit))
+
+-- two fitted outputs are one, or their cells are apart: a half and a bit stand in different bytes
+pub which : (c : Configuration) → Bounded c → (o at : Output)
+    → (o ≡ at) ⊎ ((same_output o at ≡ false) × (has c o ≡ true → has c at ≡ true → Apart (cell_of o) (cell_of at)))
+which c b (Lamp j) (Lamp k) = ⊎_elim (λ e. inl (ap Lamp e)) (λ ne. inr (ne_eqb j k ne, λ h g e. ne (omega arith))) (cases_eq j k)
+which c b (Lamp j) (Connection k) = inr (refl, λ h g. let b1 = b.slots in let b2 = b.fans in let b3 = b.supplies in let p = ltb-true j c.counts.slots h in let q = ltb-true k c.counts.slots g in λ e. omega arith)
+which c b (Lamp j) (Speed k) = inr (refl, λ h g. let b1 = b.slots in let b2 = b.fans in let b3 = b.supplies in let p = ltb-true j c.counts.slots h in let q = ltb-true k c.counts.fans g in λ e. omega arith)
+which c b (Lamp j) (Supply k) = inr (refl, λ h g. let b1 = b.slots in let b2 = b.fans in let b3 = b.supplies in let p = ltb-true j c.counts.slots h in let q = ltb-true k c.counts.supplies g in λ e. omega arith)
+which c b (Lamp j) Alarm = inr (refl, λ h g. let b1 = b.slots in let b2 = b.fans in let b3 = b.supplies in let p = ltb-true j c.counts.slots h in λ e. omega arith)
+which c b (Lamp j) Lock = inr (refl, λ h g. let b1 = b.slots in let b2 = b.fans in let b3 = b.supplies in let p = ltb-true j c.counts.slots h in λ e. omega arith)
+which c b (Connection j) (Lamp k) = inr (refl, λ h g. let b1 = b.slots in let b2 = b.fans in let b3 = b.supplies in let p = ltb-true j c.counts.slots h in let q = ltb-true k c.counts.slots g in λ e. omega arith)
+which c b (Connection j) (Connection k) = ⊎_elim (λ e. inl (ap Connection e)) (λ ne. inr (ne_eqb j k ne, λ h g e. ne (omega arith))) (cases_eq j k)
+which c b (Connection j) (Speed k) = inr (refl, λ h g. let b1 = b.slots in let b2 = b.fans in let b3 = b.supplies in let p = ltb-true j c.counts.slots h in let q = ltb-true k c.counts.fans g in λ e. omega arith)
+which c b (Connection j) (Supply k) = inr (refl, λ h g. let b1 = b.slots in let b2 = b.fans in let b3 = b.supplies in let p = ltb-true j c.counts.slots h in let q = ltb-true k c.counts.supplies g in λ e. omega arith)
+which c b (Connection j) Alarm = inr (refl, λ h g. let b1 = b.slots in let b2 = b.fans in let b3 = b.supplies in let p = ltb-true j c.counts.slots h in λ e. omega arith)
+which c b (Connection j) Lock = inr (refl, λ h g. let b1 = b.slots in let b2 = b.fans in let b3 = b.supplies in let p = ltb-true j c.counts.slots h in λ e. omega arith)
+which c b (Speed j) (Lamp k) = inr (refl, λ h g. let b1 = b.slots in let b2 = b.fans in let b3 = b.supplies in let p = ltb-true j c.counts.fans h in let q = ltb-true k c.counts.slots g in λ e. omega arith)
+which c b (Speed j) (Connection k) = inr (refl, λ h g. let b1 = b.slots in let b2 = b.fans in let b3 = b.supplies in let p = ltb-true j c.counts.fans h in let q = ltb-true k c.counts.slots g in λ e. omega arith)
+which c b (Speed j) (Speed k) = ⊎_elim (λ e. inl (ap Speed e)) (λ ne. inr (ne_eqb j k ne, λ h g e. ne (omega arith))) (cases_eq j k)
+which c b (Speed j) (Supply k) = inr (refl, λ h g. let b1 = b.slots in let b2 = b.fans in let b3 = b.supplies in let p = ltb-true j c.counts.fans h in let q = ltb-true k c.counts.supplies g in λ e. omega arith)
+which c b (Speed j) Alarm = inr (refl, λ h g. let b1 = b.slots in let b2 = b.fans in let b3 = b.supplies in let p = ltb-true j c.counts.fans h in λ e. omega arith)
+which c b (Speed j) Lock = inr (refl, λ h g. let b1 = b.slots in let b2 = b.fans in let b3 = b.supplies in let p = ltb-true j c.counts.fans h in λ e. omega arith)
+which c b (Supply j) (Lamp k) = inr (refl, λ h g. let b1 = b.slots in let b2 = b.fans in let b3 = b.supplies in let p = ltb-true j c.counts.supplies h in let q = ltb-true k c.counts.slots g in λ e. omega arith)
+which c b (Supply j) (Connection k) = inr (refl, λ h g. let b1 = b.slots in let b2 = b.fans in let b3 = b.supplies in let p = ltb-true j c.counts.supplies h in let q = ltb-true k c.counts.slots g in λ e. omega arith)
+which c b (Supply j) (Speed k) = inr (refl, λ h g. let b1 = b.slots in let b2 = b.fans in let b3 = b.supplies in let p = ltb-true j c.counts.supplies h in let q = ltb-true k c.counts.fans g in λ e. omega arith)
+which c b (Supply j) (Supply k) = ⊎_elim (λ e. inl (ap Supply e)) (λ ne. inr (ne_eqb j k ne, λ h g e. ne (omega arith))) (cases_eq j k)
+which c b (Supply j) Alarm = inr (refl, λ h g. let b1 = b.slots in let b2 = b.fans in let b3 = b.supplies in let p = ltb-true j c.counts.supplies h in λ e. omega arith)
+which c b (Supply j) Lock = inr (refl, λ h g. let b1 = b.slots in let b2 = b.fans in let b3 = b.supplies in let p = ltb-true j c.counts.supplies h in λ e. omega arith)
+which c b Alarm (Lamp k) = inr (refl, λ h g. let b1 = b.slots in let b2 = b.fans in let b3 = b.supplies in let q = ltb-true k c.counts.slots g in λ e. omega arith)
+which c b Alarm (Connection k) = inr (refl, λ h g. let b1 = b.slots in let b2 = b.fans in let b3 = b.supplies in let q = ltb-true k c.counts.slots g in λ e. omega arith)
+which c b Alarm (Speed k) = inr (refl, λ h g. let b1 = b.slots in let b2 = b.fans in let b3 = b.supplies in let q = ltb-true k c.counts.fans g in λ e. omega arith)
+which c b Alarm (Supply k) = inr (refl, λ h g. let b1 = b.slots in let b2 = b.fans in let b3 = b.supplies in let q = ltb-true k c.counts.supplies g in λ e. omega arith)
+which c b Alarm Alarm = inl refl
+which c b Alarm Lock = inr (refl, λ h g. let b1 = b.slots in let b2 = b.fans in let b3 = b.supplies in λ e. omega arith)
+which c b Lock (Lamp k) = inr (refl, λ h g. let b1 = b.slots in let b2 = b.fans in let b3 = b.supplies in let q = ltb-true k c.counts.slots g in λ e. omega arith)
+which c b Lock (Connection k) = inr (refl, λ h g. let b1 = b.slots in let b2 = b.fans in let b3 = b.supplies in let q = ltb-true k c.counts.slots g in λ e. omega arith)
+which c b Lock (Speed k) = inr (refl, λ h g. let b1 = b.slots in let b2 = b.fans in let b3 = b.supplies in let q = ltb-true k c.counts.fans g in λ e. omega arith)
+which c b Lock (Supply k) = inr (refl, λ h g. let b1 = b.slots in let b2 = b.fans in let b3 = b.supplies in let q = ltb-true k c.counts.supplies g in λ e. omega arith)
+which c b Lock Alarm = inr (refl, λ h g. let b1 = b.slots in let b2 = b.fans in let b3 = b.supplies in λ e. omega arith)
+which c b Lock Lock = inl refl

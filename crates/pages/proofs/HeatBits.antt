@@ -1,10 +1,11 @@
 -- Flags as bits of a number.
-use Rattle.std.proofs.Common.{◌≡◌, ℕ, zero, suc, ◌+◌, ◌-◌, ◌*◌, ◌%◌, ◌^◌, ◌<◌, ◌≤◌, Bool, true, false, cond, List, length, take, drop, get_or, sym, ap, ◌∙◌, one-mul, pow-suc, add-one, arith, shl_exact}
+use Rattle.std.proofs.Common.{◌≡◌, ℕ, zero, suc, ◌+◌, ◌-◌, ◌*◌, ◌%◌, ◌^◌, ◌<◌, ◌≤◌, Bool, true, false, cond, ◌||◌, List, length, take, drop, get_or, sym, ap, ◌∙◌, one-mul, pow-suc, add-one, arith, shl_exact}
+use mathlib.Core.Bool.{or-true, or_assoc}
 use Rattle.std.specs.List.{enumerate_from}
 use Rattle.std.proofs.Math.Pow.{pow_mono}
 use Rattle.std.proofs.lemmas.List.{get_or-drop, get_or-take, get_or_default, get_or_past, length-drop, length-take}
 use Rattle.std.proofs.lemmas.List.FromFn.{get_or-enumerate_from, length-enumerate_from}
-use Rattle.pages.specs.Heat.{flag, flag_bits}
+use Rattle.pages.specs.Heat.{flag, flag_bits, one_set}
 
 -- one turn of the loop: a flag that is set adds its bit, and any other none
 pub turn : (flags : List Bool) (at k bits new : ℕ) (here : Bool) → k < 8 → here ≡ flag flags (at + k) → bits ≡ flag_bits flags at k → bits < 2 ^ k → new ≡ bits + cond here (1 * 2 ^ k % 256) 0
@@ -57,3 +58,17 @@ ended flags at count n bits is b m =
     let whole : n + (count - n) ≡ count = omega (arith, le) in
     let p = past flags at n (count - n) (λ more. omega (arith, is, l, t, d, more)) in
     (b ∙ sym p ∙ ap (flag_bits flags at) whole, omega (arith, m, pow_mono le))
+
+-- with one flag more
+lit_more : (bits power : ℕ) (set here : Bool) → (0 < bits → set ≡ true) → 0 < bits + cond here power 0 → (set || here) ≡ true
+lit_more bits power set true h l = or-true set
+lit_more bits power set false h l = rw (h (omega arith))
+
+-- bits that are not 0 have a flag that is set
+pub lit : (flags : List Bool) (at n : ℕ) → 0 < flag_bits flags at n → one_set flags at n ≡ true
+lit flags at zero l = absurd (omega arith)
+lit flags at (suc n) l = lit_more (flag_bits flags at n) (2 ^ n) (one_set flags at n) (flag flags (at + n)) (lit flags at n) l
+
+-- one of the first fifteen flags is one of the first eight or of the next seven
+pub fifteen : (flags : List Bool) → one_set flags 0 15 ≡ (one_set flags 0 8 || one_set flags 8 7)
+fifteen flags = simp or_assoc

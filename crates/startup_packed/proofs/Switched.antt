@@ -4,7 +4,7 @@ use mathlib.Core.Option.{some}
 use base.Fml.{GName}
 use Rattle.std.proofs.lemmas.Bool.{and_from, and_left, and_parts, and_right, cases_Bool, cond_both, cond-false, cond-true}
 use Rattle.bits.specs.Image.{bit, bit_at, inner, within}
-use Rattle.backplane.specs.Meaning.{Bounded, Outputs, has, sampled}
+use Rattle.backplane.specs.Meaning.{Bounded, Outputs, has, reads_well, sampled}
 use Rattle.backplane.specs.declared.configuration.Configuration.{Configuration}
 use Rattle.packed.specs.Frame.{inputs_in, reading, well_formed}
 use Rattle.packed.specs.Layout.{bit_of, cell_of, of_output, made_over, output_at, outputs_of, value_of}
@@ -57,3 +57,11 @@ told c d few frame last old new lent held is =
 -- an equation at y is one at an equal x
 pub at_same : {A B : Type 0} (f : A → B) (y x : A) (z : B) → x ≡ y → f y ≡ z → f x ≡ z
 at_same f y x z e p = ap f e ∙ p
+
+-- a frame reads as something exactly if it is well-formed
+pub reads : (c : Configuration) (frame : List ℕ) → reads_well (reading c frame) ≡ well_formed c frame
+reads c frame =
+    ⊎_elim
+    (λ w. ap reads_well (cond-true (well_formed c frame) (Some (inputs_in c frame)) None w) ∙ sym w)
+    (λ w. ap reads_well (cond-false (well_formed c frame) (Some (inputs_in c frame)) None w) ∙ sym w)
+    (cases_Bool (well_formed c frame))
