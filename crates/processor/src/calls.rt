@@ -1,5 +1,5 @@
 // Power-on, samples and resets.
-// Each call, and `command` too, writes `follows`, `refused` and `keeps` of its own: `follows` names what the call follows, and the three facts are named once, in specs/Inside.
+// Each call of a shelf, and `command` too, writes `follows`, `refused` and `keeps` of its own: `follows` names what the call follows, and the three facts are named once, in specs/Inside.
 ghost use Rattle.std.specs.Prelude.{◌≡◌, ℕ, List};
 ghost use Rattle.history.specs.Shelf.{power_on, reset, sample};
 ghost use Rattle.processor.specs.Follows.{Unaltered};
