@@ -22,7 +22,8 @@ pub fn show_slot<B: Backplane>(b: &mut B, k: usize, slot: Slot)
     let _ = b.set(Output::Connection(k), slot.is_connected() as u8);
 }
 
-// The same for each slot.
+// The same for each slot. It is worked into what calls it too.
+#[inline(always)]
 pub fn show_slots<B: Backplane>(b: &mut B, table: &Table)
     ensures { B.Backplane.value b.new ≡ made_where (slots_below (B.Backplane.value b.old).configuration.counts.slots) (slot_number (slots_of table.now)) (B.Backplane.value b.old) }
 {
